@@ -1,0 +1,14 @@
+pub mod Sums
+pub mod Ladder
+pub mod Numbers
+pub mod Haar
+pub mod Split
+pub mod Growth
+pub mod Lists
+pub mod Count
+pub mod Computing
+pub mod Load
+pub mod Figures
+pub mod Read
+pub mod Run
+pub mod Places

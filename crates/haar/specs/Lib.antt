@@ -1,0 +1,12 @@
+pub mod Tree
+pub mod Tiles
+pub mod Haar
+pub mod Load
+pub mod Growth
+pub mod Count
+pub mod Cells
+pub mod Run
+pub mod Trend
+pub mod Figures
+pub mod Laws
+pub mod Places

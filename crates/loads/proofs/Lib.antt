@@ -1,0 +1,10 @@
+pub mod Inverse
+pub mod Meeting
+pub mod Splits
+pub mod Shares
+pub mod Fresh
+pub mod Seen
+pub mod Partly
+pub mod Reading
+pub mod Adding
+pub mod Guarded

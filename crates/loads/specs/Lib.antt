@@ -1,0 +1,7 @@
+pub mod Reach
+pub mod Transform
+pub mod Share
+pub mod Loads
+pub mod Adds
+pub mod Addition
+pub mod Keeps

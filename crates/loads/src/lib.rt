@@ -1,0 +1,11 @@
+// Additions to a warehouse: a chunk's cells, its share of each, and the writing.
+mod cells;
+mod chunk;
+pub mod laws;
+pub mod point;
+mod reach;
+mod share;
+mod slots;
+mod touched;
+mod transform;
+mod values;

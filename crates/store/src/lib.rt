@@ -1,0 +1,4 @@
+// What any store means, and the stores.
+pub mod fault;
+pub mod interface;
+pub mod numbers;

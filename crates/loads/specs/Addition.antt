@@ -13,7 +13,7 @@ use Rattle.std.specs.declared.result.Result.{Result}
 use Rattle.std.specs.declared.result.Result.the-variants.{Ok, Err}
 use Rattle.store.specs.declared.fault.CellFault.the-variants as cell
 use Rattle.warehouse.specs.declared.fault.Fault.{Fault}
-use Rattle.warehouse.specs.declared.fault.Fault.the-variants.{Cell, Value, Range, Size, Domain, Large, Full, Torn, Dirty}
+use Rattle.warehouse.specs.declared.fault.Fault.the-variants.{Cell, Level, Value, Buffer, Range, Interval, Size, Domain, Large, Full, Top, Short, Over, Torn, Dirty, Fine}
 use Rattle.warehouse.specs.declared.fault.Asked.the-variants.{Minute}
 use Rattle.warehouse.specs.declared.fault.Refusal.{Refusal}
 use Rattle.warehouse.specs.Faults.{fault-alone, Repeats}
@@ -45,10 +45,17 @@ Refuses v m p zs (Value i) = Lies (v .size) m p × (i < 2 ^ m) × (Limit (getD z
 Refuses v m p zs (Cell f) = Sound v m p zs × (v .store .bands ≡ 0) × (f ≡ cell.Cell 0)
 Refuses v m p zs (Large c) = Sound v m p zs × (1 ≤ v .store .bands) × loads.Large (v .store .bands) (v .size) m p (minutes m p zs) (v .store .cells) c
 Refuses v m p zs Full = Sound v m p zs × (1 ≤ v .store .bands) × Crowded (v .store .bands) (v .size) m p (minutes m p zs) (v .store)
+Refuses v m p zs Level = ⊥
+Refuses v m p zs Buffer = ⊥
 Refuses v m p zs Range = ⊥
+Refuses v m p zs Interval = ⊥
 Refuses v m p zs Size = ⊥
+Refuses v m p zs Top = ⊥
+Refuses v m p zs Short = ⊥
+Refuses v m p zs Over = ⊥
 Refuses v m p zs (Torn c) = ⊥
 Refuses v m p zs (Dirty c) = ⊥
+Refuses v m p zs (Fine c) = ⊥
 
 pub record Accepts (v : View) (m p : ℕ) (zs : List ℤ) (w : ℕ) (v′ : View) : Type 0 where
   pub sound : Sound v m p zs

@@ -10,7 +10,7 @@ use Rattle.haar.specs.Load.{Loaded}
 use Rattle.haar.specs.Count.{W}
 use Rattle.store.specs.Meaning.{Meaning}
 use Rattle.warehouse.specs.declared.fault.Fault.{Fault}
-use Rattle.warehouse.specs.declared.fault.Fault.the-variants.{Cell, Value, Range, Size, Domain, Large, Full, Torn, Dirty}
+use Rattle.warehouse.specs.declared.fault.Fault.the-variants.{Cell, Level, Value, Buffer, Range, Interval, Size, Domain, Large, Full, Top, Short, Over, Torn, Dirty, Fine}
 use Rattle.loads.specs.Loads.{fresh, Clear, Stored}
 use Rattle.loads.specs.Loads as loads
 
@@ -33,12 +33,19 @@ abbrev pub Faulty : ℕ → ℕ → ℕ → ℕ → (ℕ → ℤ) → Meaning �
 Faulty T n m p g before (Large c) = loads.Large T n m p g (before .cells) c
 Faulty T n m p g before Full = Crowded T n m p g before
 Faulty T n m p g before (Cell f) = ⊥
+Faulty T n m p g before Level = ⊥
 Faulty T n m p g before (Value i) = ⊥
+Faulty T n m p g before Buffer = ⊥
 Faulty T n m p g before Range = ⊥
+Faulty T n m p g before Interval = ⊥
 Faulty T n m p g before Size = ⊥
 Faulty T n m p g before Domain = ⊥
+Faulty T n m p g before Top = ⊥
+Faulty T n m p g before Short = ⊥
+Faulty T n m p g before Over = ⊥
 Faulty T n m p g before (Torn c) = ⊥
 Faulty T n m p g before (Dirty c) = ⊥
+Faulty T n m p g before (Fine c) = ⊥
 
 abbrev pub Adds : ℕ → ℕ → ℕ → ℕ → (ℕ → ℤ) → Meaning → Result ℕ Fault → Meaning → Type 0
 Adds T n m p g before (Ok w) after = Took T n m p g before w after

@@ -5,3 +5,4 @@ pub mod Loads
 pub mod Adds
 pub mod Addition
 pub mod Keeps
+pub mod Opening

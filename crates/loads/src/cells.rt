@@ -58,7 +58,11 @@ pub(crate) fn check_cells<S: Store>(store: &S, reach: Reach, numbers: &[i64]) ->
     Ok(started)
 }
 
-pub(crate) fn write_cells<S: Store>(store: &mut S, reach: Reach, numbers: &[i64]) -> Result<(), CellFault>
+pub(crate) fn write_cells<S: Store>(
+    store: &mut S,
+    reach: Reach,
+    numbers: &[i64],
+) -> Result<(), CellFault>
     requires ready { ⌜ Ready (reach .level) (now numbers) ⌝ }
     requires bands { ⌜ means (now store) .bands ≡ reach .bands ⌝ }
     requires small { ⌜ Clear (reach .bands) (reach .size) (reach .level) (reach .index) (minutes (reach .level) (reach .index) (unhaar (reach .level) (now numbers))) (means (now store) .cells) (cell-count (reach .bands)) ⌝ }

@@ -7,14 +7,18 @@ ghost use Rattle.loads.specs.Share.{minutes};
 ghost use Rattle.loads.specs.Adds.{Adds};
 use crate::cells::check_cells;
 use crate::cells::write_cells;
-use warehouse::fault::Fault;
 use crate::reach::Reach;
 use crate::transform::Transformed;
 use crate::transform::transform;
 use haar::written::cells_written;
 use store::interface::Store;
+use warehouse::fault::Fault;
 
-pub(crate) fn add_chunk<S: Store>(store: &mut S, reach: Reach, numbers: &mut [i64]) -> Result<u32, Fault>
+pub(crate) fn add_chunk<S: Store>(
+    store: &mut S,
+    reach: Reach,
+    numbers: &mut [i64],
+) -> Result<u32, Fault>
     requires many { ⌜ length (now numbers) ≡ 2 ^ reach .level ⌝ }
     requires within { ⌜ Within (2 ^ 31) (now numbers) ⌝ }
     requires bands { ⌜ means (now store) .bands ≡ reach .bands ⌝ }

@@ -2,6 +2,8 @@
 mod cells;
 mod chunk;
 pub mod laws;
+pub mod loading;
+pub mod open;
 pub mod point;
 mod reach;
 mod share;

@@ -10,7 +10,11 @@ use warehouse::numbers::asking;
 use warehouse::record::Warehouse;
 
 // A load of level 0: the count of cells written, or why nothing was.
-pub fn add_point<S: Store>(warehouse: &mut Warehouse<S>, minute: u32, value: i64) -> Result<u32, Refusal>
+pub fn add_point<S: Store>(
+    warehouse: &mut Warehouse<S>,
+    minute: u32,
+    value: i64,
+) -> Result<u32, Refusal>
     ensures { λ r. ⌜ Adds-point (view (means (now (warehouse .entry) .store)) (now (warehouse .entry) .asked)) minute value r (view (means (now (warehouse .exit) .store)) (now (warehouse .exit) .asked)) ⌝ }
 {
     let mut values = [value];

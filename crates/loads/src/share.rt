@@ -9,8 +9,8 @@ ghost use Rattle.haar.specs.Haar.{value};
 ghost use Rattle.loads.specs.Reach.{Meets};
 ghost use Rattle.loads.specs.Transform.{Near, unhaar};
 ghost use Rattle.loads.specs.Share.{minutes, alone, Ready};
-use haar::coefficient::Coefficient;
 use crate::reach::Reach;
+use haar::coefficient::Coefficient;
 
 // D(level, index) of the chunk alone
 fn difference_at(numbers: &[i64], chunk: u8, level: u8, index: u32) -> i64

@@ -5,9 +5,9 @@ ghost use Prim.Native.Nat.{ℕ, _+_, _-_, _*_, _/_, _^_, _<_, _≤_};
 ghost use Rattle.haar.specs.Tiles.{tiles-before};
 ghost use Rattle.haar.specs.Count.{bands-in-use};
 ghost use Rattle.loads.specs.Reach.{Sits, Meets};
+use crate::reach::Reach;
 use haar::cells::tiles_before;
 use haar::coefficient::Coefficient;
-use crate::reach::Reach;
 
 // how many tiles stand before the band that has `above` bands above it
 pub(crate) fn tiles_above(above: u8) -> u32

@@ -4,12 +4,12 @@ ghost use Prim.Native.Nat.{ℕ, _+_, _-_, _*_, _/_, _%_, _^_, _<_, _≤_};
 ghost use Rattle.std.specs.declared.option.Option.the-variants.{Some, None};
 ghost use Rattle.haar.specs.Tiles.{tiles-before};
 ghost use Rattle.loads.specs.Reach.{Sits, Spans, Found, Past, FoundIn, PastIn};
-use haar::coefficient::Coefficient;
 use crate::reach::Reach;
 use crate::slots::bands_in_use;
 use crate::slots::in_slot;
 use crate::slots::meets;
 use crate::slots::tiles_above;
+use haar::coefficient::Coefficient;
 
 #[derive(Clone, Copy)]
 pub struct Touch {

@@ -15,7 +15,7 @@ use warehouse::fault::Fault;
 use warehouse::record::Warehouse;
 
 // the chunk is inside the size
-fn lies(size: u8, level: u8, index: u32) -> bool
+pub(crate) fn lies(size: u8, level: u8, index: u32) -> bool
     requires { ⌜ size ≤ 20 ⌝ }
     ensures yes { λ r. ⌜ (r ≡ true → Lies size level index) ⌝ }
     ensures none { λ r. ⌜ (r ≡ false → Lies size level index → ⊥) ⌝ }
@@ -43,7 +43,12 @@ fn first_outside(values: &[i64]) -> Option<u32>
     None
 }
 
-pub(crate) fn add_values<S: Store>(warehouse: &mut Warehouse<S>, level: u8, index: u32, values: &mut [i64]) -> Result<u32, Fault>
+pub(crate) fn add_values<S: Store>(
+    warehouse: &mut Warehouse<S>,
+    level: u8,
+    index: u32,
+    values: &mut [i64],
+) -> Result<u32, Fault>
     requires short { ⌜ level ≤ 12 ⌝ }
     requires many { ⌜ length (now values) ≡ 2 ^ level ⌝ }
     ensures restored { λ _. ⌜ now (values .exit) ≡ now (values .entry) ⌝ }

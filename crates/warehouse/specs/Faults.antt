@@ -7,18 +7,25 @@ use Rattle.store.specs.Faults.{cell-fault-number}
 use Rattle.warehouse.specs.declared.fault.Asked.{Asked}
 use Rattle.warehouse.specs.declared.fault.Fault.{Fault}
 use Rattle.warehouse.specs.declared.fault.Refusal.{Refusal}
-use Rattle.warehouse.specs.declared.fault.Fault.the-variants.{Cell, Value, Range, Size, Domain, Large, Full, Torn, Dirty}
+use Rattle.warehouse.specs.declared.fault.Fault.the-variants.{Cell, Level, Value, Buffer, Range, Interval, Size, Domain, Large, Full, Top, Short, Over, Torn, Dirty, Fine}
 
 abbrev pub fault-number : Fault → ℕ
 fault-number (Cell f) = cell-fault-number f
+fault-number Level = 13
 fault-number (Value i) = 14
+fault-number Buffer = 15
 fault-number Range = 16
+fault-number Interval = 17
 fault-number Size = 18
 fault-number Domain = 21
 fault-number (Large c) = 22
 fault-number Full = 23
+fault-number Top = 24
+fault-number Short = 25
+fault-number Over = 26
 fault-number (Torn c) = 27
 fault-number (Dirty c) = 28
+fault-number (Fine c) = 29
 
 abbrev pub asking : {X : Type 0} → Result X Fault → Asked → Result X (Fault × Asked)
 asking (Ok x) asked = Ok x

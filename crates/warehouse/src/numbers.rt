@@ -13,14 +13,21 @@ impl Fault {
     {
         match self {
             Fault::Cell(fault) => fault.number(),
+            Fault::Level => 13,
             Fault::Value(_) => 14,
+            Fault::Buffer => 15,
             Fault::Range => 16,
+            Fault::Interval => 17,
             Fault::Size => 18,
             Fault::Domain => 21,
             Fault::Large(_) => 22,
             Fault::Full => 23,
+            Fault::Top => 24,
+            Fault::Short => 25,
+            Fault::Over => 26,
             Fault::Torn(_) => 27,
             Fault::Dirty(_) => 28,
+            Fault::Fine(_) => 29,
         }
     }
 }

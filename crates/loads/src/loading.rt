@@ -23,7 +23,13 @@ fn chunk_len(level: u8) -> usize
 }
 
 // The checks of a finish and its writing, by the load's numbers.
-fn finished<S: Store>(warehouse: &mut Warehouse<S>, level: u8, index: u32, taken: u32, buffer: &mut [i64]) -> Result<u32, Fault>
+fn finished<S: Store>(
+    warehouse: &mut Warehouse<S>,
+    level: u8,
+    index: u32,
+    taken: u32,
+    buffer: &mut [i64],
+) -> Result<u32, Fault>
     requires { ⌜ level ≤ 12 ⌝ }
     ensures restored { λ _. ⌜ now (buffer .exit) ≡ now (buffer .entry) ⌝ }
     ensures finished { λ r. ⌜ Finished (view (means (now (warehouse .entry) .store)) (now (warehouse .entry) .asked)) level index taken (now (buffer .entry)) r (view (means (now (warehouse .exit) .store)) (now (warehouse .exit) .asked)) ⌝ }
@@ -88,7 +94,11 @@ impl OpenLoad {
     }
 
     // Adds the chunk; the buffer holds what it held, also where the load comes back.
-    pub fn finish<S: Store>(self, warehouse: &mut Warehouse<S>, buffer: &mut [i64]) -> Result<u32, RefusedLoad>
+    pub fn finish<S: Store>(
+        self,
+        warehouse: &mut Warehouse<S>,
+        buffer: &mut [i64],
+    ) -> Result<u32, RefusedLoad>
         ensures restored { λ _. ⌜ now (buffer .exit) ≡ now (buffer .entry) ⌝ }
         ensures finishes { λ r. ⌜ Finishes self (view (means (now (warehouse .entry) .store)) (now (warehouse .entry) .asked)) (now (buffer .entry)) r (view (means (now (warehouse .exit) .store)) (now (warehouse .exit) .asked)) ⌝ }
     {

@@ -1,2 +1,4 @@
 pub mod Meaning
 pub mod Faults
+pub mod Table
+pub mod SparseMeaning

@@ -1,3 +1,6 @@
 pub mod View
 pub mod Faults
 pub mod Founding
+pub mod Read
+pub mod Ask
+pub mod Faithful

@@ -1,0 +1,4 @@
+pub mod Decode
+pub mod Line
+pub mod Text
+pub mod Encode

@@ -1,24 +1,20 @@
 -- Going down from a tile's sum, one level at a time.
-use Prim.Native.Nat.{ℕ, zero, suc, _+_, _-_, _*_, _/_, _%_, _^_, _≤_, _<_, min}
+use Prim.Native.Nat.{ℕ, zero, suc, _+_, _-_, _*_, _/_, _^_, _≤_, _<_}
 use native.Mathlib.Nat.{add-zero, div-one}
-use native.Mathlib.Numerals.{add-one}
 use native.Mathlib.Omega.{arith}
 use lib.IntN.{ℤ, natAbs}
-use lib.Pow.{pow-add, pow-mono, shr-lt, shr-shr}
+use lib.Pow.{pow-mono, shr-lt}
 use mathlib.Core.Bool.{true}
-use mathlib.Core.Path.{_≡_, refl, sym, _∙_, ap, ap₂, subst}
+use mathlib.Core.Path.{_≡_, sym, _∙_, ap, ap₂, subst}
 use Rattle.std.specs.Options.{isSome}
 use Rattle.std.specs.declared.option.Option.{Option}
-use Rattle.std.specs.declared.option.Option.the-variants.{Some, None}
+use Rattle.std.specs.declared.option.Option.the-variants.{Some}
 use Rattle.std.specs.declared.result.Result.{Result}
 use Rattle.std.specs.declared.result.Result.the-variants.{Ok, Err}
-use Rattle.haar.specs.declared.coefficient.Coefficient.the-variants.{Difference}
-use Rattle.haar.specs.Tiles.{cell-number}
 use Rattle.haar.specs.Places.{In-tree, Difference-cell, Sum-cell}
-use Rattle.haar.proofs.Numbers.{same-pow}
 use Rattle.haar.proofs.Split.{shift-suc}
 use Rattle.warehouse.specs.declared.fault.Fault.{Fault}
-use Rattle.warehouse.specs.Read.{_then_, sight, halve, beside, lower, descend, reading-band, start, first-cell, read}
+use Rattle.warehouse.specs.Read.{_then_, sight, halve, beside, lower, descend, start, first-cell, read}
 use Rattle.warehouse.proofs.Halves.{Small, sight-small, halve-small}
 
 -- the cell beside S(j,k)

@@ -1,18 +1,20 @@
 -- On Haar cells, questions inside the size are answered by plain sums.
-use Prim.Native.Nat.{ℕ, _-_, _^_, _≤_, _<_}
+use Prim.Native.Nat.{ℕ, _-_, _*_, _^_, _≤_, _<_, min}
 use native.Mathlib.Omega.{arith}
 use lib.Dec.{leb, ltb}
 use lib.IntN.{ℤ}
-use mathlib.Core.Bool.{cond}
-use mathlib.Core.Path.{_≡_, refl, sym, _∙_, ap}
+use mathlib.Core.Path.{_≡_, _∙_, ap, ap₂}
 use Rattle.std.proofs.shelf.Tests.{lt-ltb, le-ltb, lt-leb, cond-true, cond-false}
 use Rattle.std.specs.declared.result.Result.the-variants.{Ok, Err}
+use Rattle.haar.specs.Tiles.{tiles-before, cell-count}
 use Rattle.haar.specs.Tree.{plain-sum}
+use Rattle.store.specs.Meaning.{Meaning}
+use Rattle.store.specs.declared.fault.CellFault.the-variants as cell
 use Rattle.warehouse.specs.declared.fault.Asked.the-variants.{Minute, Minutes}
-use Rattle.warehouse.specs.declared.fault.Fault.the-variants.{Range, Domain}
-use Rattle.warehouse.specs.Ask.{counted, piece, range-reading, sum-reading, mean-reading, averaged, refused, point-answer, sum-answer, mean-answer}
-use Rattle.warehouse.specs.Faithful.{Holds, Reads-back}
-use Rattle.warehouse.specs.Read.{_then_, look, read, cells-read, range-cells, floor}
+use Rattle.warehouse.specs.declared.fault.Fault.the-variants.{Cell, Range, Domain}
+use Rattle.warehouse.specs.Ask.{counted, piece, range-reading, sum-reading, averaged, refused, point-answer, sum-answer, mean-answer}
+use Rattle.warehouse.specs.Faithful.{Holds, Reads-back, Without-bands}
+use Rattle.warehouse.specs.Read.{_then_, look, sight, descend, read, cells-read, range-cells, floor}
 use Rattle.warehouse.specs.View.{View}
 use Rattle.warehouse.proofs.Sums.{reads-point, reads-range}
 
@@ -43,3 +45,23 @@ module _ (v : View) (f : ℕ → ℤ) (h : Holds v f) where
 
 pub reads-back : Reads-back
 reads-back v f h = (point-back v f h, sum-back v f h, mean-back v f h)
+
+module _ (m : Meaning) (asked : ℕ) (e : m .bands ≡ 0) where
+  no-size : min asked (4 * m .bands) ≡ 0
+  no-size = omega arith
+
+  no-cell : look m 0 ≡ Err (Cell (cell.Cell 0))
+  unfolding tiles-before
+  no-cell = let z = ap cell-count e in cond-false (ltb 0 (cell-count (m .bands))) (Ok (m .cells 0)) (Err (Cell (cell.Cell 0))) (le-ltb _ _ (omega arith))
+
+  no-reading : read (m .bands) (min asked (4 * m .bands)) (look m) 0 0 ≡ Err (Cell (cell.Cell 0))
+  unfolding read descend
+  no-reading = ap₂ (λ T n. read T n (look m) 0 0) e no-size ∙ ap (sight 0) no-cell
+
+pub without-bands : Without-bands
+unfolding point-answer
+without-bands m asked e =
+    let z = ap (λ n. 2 ^ n) (no-size m asked e) in
+    ap (refused (Minute 0))
+    (cond-true (ltb 0 (2 ^ min asked (4 * m .bands))) (piece (m .bands) (min asked (4 * m .bands)) (look m) 0 0) (Err Domain) (lt-ltb _ _ (omega arith))
+    ∙ ap (λ r. _then_ r (counted (cells-read (min asked (4 * m .bands)) 0))) (no-reading m asked e))

@@ -1,11 +1,11 @@
 -- Halving a sum exactly, as the machine's operators do it.
-use Prim.Native.Nat.{ℕ, suc, _+_, _-_, _*_, _/_, _%_, _^_, _≤_, _<_}
+use Prim.Native.Nat.{ℕ, suc, _+_, _-_, _/_, _%_, _^_, _≤_}
 use native.Mathlib.Omega.{arith}
 use lib.Dec.{eqb, leb}
 use lib.IntN.{ℤ, pos, negsuc, natAbs, negℤ, _+ℤ_, _-ℤ_}
-use lib.Signed.{quotZ, remZ}
+use lib.Signed.{quotZ}
 use mathlib.Core.Bool.{Bool, cond, true, false}
-use mathlib.Core.Path.{_≡_, refl, sym, _∙_, ap, ap₂, subst}
+use mathlib.Core.Path.{_≡_, refl, sym, _∙_, ap, ap₂}
 use mir.Syntax.{w64}
 use mir.Val.{SFits, ofZ, toZ}
 use Rattle.std.proofs.shelf.Signed.{ints, toZ-ofZ}

@@ -5,3 +5,5 @@ pub mod Pieces
 pub mod Progress
 pub mod Sums
 pub mod Faithful
+pub mod Splits
+pub mod Halving

@@ -1,20 +1,16 @@
 -- The longest interval, and a range split into such intervals.
-use Prim.Native.Nat.{ℕ, zero, suc, _+_, _-_, _*_, _/_, _%_, _^_, _≤_, _<_, min}
+use Prim.Native.Nat.{ℕ, zero, suc, _+_, _-_, _*_, _/_, _%_, _^_, _≤_, _<_}
 use native.Mathlib.Nat.{two-pow-succ, zero-mod, mod-self, mod-add-mod, add-mod-right}
 use native.Mathlib.Omega.{arith}
 use lib.Dec.{leb, eqb}
-use lib.Pow.{pow-pos, pow-mono, shr-lt, mod-mod-pow, mod-pow-add}
-use mathlib.Core.Bool.{Bool, true, false, cond, _&&_}
-use mathlib.Core.List.{List, [], _∷_}
+use lib.Pow.{pow-pos, pow-mono, mod-mod-pow, mod-pow-add}
+use mathlib.Core.Bool.{Bool, true, false, cond}
+use mathlib.Core.List.{[], _∷_}
 use mathlib.Core.Logic.{_⊎_, inl, inr, ⊎-elim}
 use mathlib.Core.Path.{_≡_, refl, sym, _∙_, ap, subst}
 use Rattle.std.proofs.shelf.Tests.{cases-lt, cases-eq, and-parts, and-from, eqb-true, leb-true, le-leb, lt-leb, eq-eqb, both-ways, cond-true, cond-false}
-use Rattle.warehouse.specs.Read.{starts, longest, Interval, interval, split, pieces, start, cells-read}
-
--- an interval of level j starts at a and ends by b
-pub record Starts (j a b : ℕ) : Type 0 where
-  pub aligned : a % 2 ^ j ≡ 0
-  pub ends : a + 2 ^ j ≤ b
+use Rattle.warehouse.specs.Laws.{Starts}
+use Rattle.warehouse.specs.Read.{starts, longest, interval, split, pieces, cells-read}
 
 starts-is : (j a b : ℕ) → starts j a b ≡ true → Starts j a b
 starts-is j a b e = let w = and-parts (eqb (a % 2 ^ j) 0) (leb (a + 2 ^ j) b) e in record { aligned = eqb-true _ _ (w .0); ends = leb-true _ _ (w .1) }

@@ -1,9 +1,8 @@
 -- A range, read interval by interval: what is read so far, and what is left.
-use Prim.Native.Nat.{ℕ, zero, suc, _+_, _-_, _*_, _/_, _%_, _^_, _≤_, _<_}
+use Prim.Native.Nat.{ℕ, suc, _+_, _-_, _*_, _/_, _^_, _≤_, _<_}
 use native.Mathlib.Omega.{arith}
 use lib.IntN.{ℤ, pos, natAbs, _+ℤ_}
 use lib.Pow.{shr-lt}
-use mathlib.Core.List.{List, [], _∷_}
 use mathlib.Core.Logic.{inl}
 use mathlib.Core.Path.{_≡_, refl, sym, _∙_, ap, ap₂, subst}
 use Rattle.haar.proofs.Numbers.{same-pow}
@@ -13,10 +12,10 @@ use Rattle.std.specs.declared.result.Result.the-variants.{Ok, Err}
 use Rattle.warehouse.specs.declared.fault.Fault.{Fault}
 use Rattle.warehouse.specs.declared.reading.Reading.{Reading}
 use Rattle.warehouse.specs.Ask.{counted, piece, range-reading}
-use Rattle.warehouse.specs.Read.{_then_, read, cells-read, longest, interval, pieces, read-all, all-cells, read-range, range-cells}
+use Rattle.warehouse.specs.Read.{_then_, read, cells-read, longest, read-all, all-cells, read-range, range-cells}
 use Rattle.warehouse.proofs.Descents.{read-small}
 use Rattle.warehouse.proofs.Halves.{Small}
-use Rattle.warehouse.proofs.Pieces.{Longest, longest-is, pieces-more, pieces-none, cells-few, Stage, stage-few, stage-more}
+use Rattle.warehouse.proofs.Pieces.{longest-is, pieces-more, pieces-none, cells-few, Stage, stage-few, stage-more}
 
 -- a sum that is carried on
 carried : (r : Result ℤ Fault) (v s : ℤ) → _then_ (_then_ r (λ x. Ok (s +ℤ x))) (λ x. Ok (v +ℤ x)) ≡ _then_ r (λ x. Ok ((v +ℤ s) +ℤ x))

@@ -1,17 +1,16 @@
 -- Reading Haar cells back gives plain sums.
-use Prim.Native.Nat.{ℕ, zero, suc, _+_, _-_, _*_, _/_, _%_, _^_, _≤_, _<_, min}
+use Prim.Native.Nat.{ℕ, zero, suc, _+_, _-_, _*_, _/_, _%_, _^_, _≤_, _<_}
 use native.Mathlib.Nat.{add-zero, div-one, two-pow-succ, lt-of-mul-lt-mul-right, sub-zero}
 use native.Mathlib.Omega.{arith}
 use lib.Dec.{leb, ltb, eqb}
 use lib.IntN.{ℤ, pos, negsuc, natAbs, _+ℤ_, _-ℤ_}
 use lib.Pow.{pow-pos, pow-add, shr-shr, split as divided}
-use mathlib.Core.Bool.{Bool, true, false, cond}
-use mathlib.Core.List.{List, [], _∷_}
+use mathlib.Core.Bool.{cond}
+use mathlib.Core.List.{_∷_}
 use mathlib.Core.Logic.{_⊎_, ⊎-elim}
-use mathlib.Core.Path.{_≡_, refl, sym, _∙_, ap, ap₂, subst}
+use mathlib.Core.Path.{_≡_, refl, sym, _∙_, ap, ap₂}
 use Rattle.std.proofs.shelf.Signed.{ints}
-use Rattle.std.proofs.shelf.Tests.{cases-lt, cases-eq, le-leb, lt-leb, lt-ltb, le-ltb, eq-eqb, ne-eqb, cond-true, cond-false}
-use Rattle.std.specs.declared.result.Result.{Result}
+use Rattle.std.proofs.shelf.Tests.{cases-lt, cases-eq, le-leb, lt-ltb, eq-eqb, ne-eqb, cond-true, cond-false}
 use Rattle.std.specs.declared.result.Result.the-variants.{Ok, Err}
 use Rattle.haar.specs.Tree.{plain-sum, S, D}
 use Rattle.haar.specs.declared.coefficient.Coefficient.{Coefficient}
@@ -23,16 +22,15 @@ use Rattle.haar.proofs.Sums.{halves, D-suc, range-step}
 use Rattle.haar.proofs.Read.{read-start, start-inside}
 use Rattle.store.specs.Meaning.{Meaning}
 use Rattle.store.specs.declared.fault.CellFault.the-variants as cell
-use Rattle.warehouse.specs.declared.fault.Fault.{Fault}
 use Rattle.warehouse.specs.declared.fault.Fault.the-variants.{Cell, Torn}
-use Rattle.warehouse.specs.Read.{_then_, look, limit, sight, half, halve, beside, lower, descend, reading-band, start, first-cell, read, longest, interval, pieces, read-all, read-range}
+use Rattle.warehouse.specs.Read.{_then_, look, limit, sight, half, halve, beside, lower, descend, reading-band, start, read, longest, interval, pieces, read-all, read-range}
 use Rattle.warehouse.proofs.Pieces.{longest-is, pieces-more, pieces-none}
 
 double-half : (a : ℤ) → half (a +ℤ a) ≡ a
 double-half (pos n) = ap pos (omega arith)
 double-half (negsuc n) = ap negsuc (omega arith)
 
-double-even : (a : ℤ) → natAbs (a +ℤ a) % 2 ≡ 0
+pub double-even : (a : ℤ) → natAbs (a +ℤ a) % 2 ≡ 0
 double-even (pos n) = omega arith
 double-even (negsuc n) = omega arith
 

@@ -4,3 +4,5 @@ pub mod Founding
 pub mod Read
 pub mod Ask
 pub mod Faithful
+pub mod Laws
+pub mod Grading

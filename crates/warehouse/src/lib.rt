@@ -8,4 +8,5 @@ mod range;
 mod read;
 pub mod reading;
 pub mod record;
+pub mod trend;
 pub mod warehouse;

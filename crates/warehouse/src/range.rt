@@ -1,6 +1,6 @@
 // A range of minutes, read back interval by interval.
 ghost use mathlib.Core.Path.{_≡_};
-ghost use Prim.Native.Nat.{ℕ, _+_, _*_, _^_, _<_, _≤_};
+ghost use Prim.Native.Nat.{_+_, _*_, _^_, _<_, _≤_};
 ghost use lib.IntN.{natAbs, _+ℤ_};
 ghost use Rattle.warehouse.specs.Ask.{range-reading};
 ghost use Rattle.warehouse.specs.Read.{look, starts, longest};

@@ -1,9 +1,8 @@
 // Sums read back from a store's cells, level by level.
 ghost use mathlib.Core.Path.{_≡_};
-ghost use Prim.Native.Nat.{ℕ, suc, _-_, _*_, _/_, _^_, _<_, _≤_};
+ghost use Prim.Native.Nat.{suc, _-_, _*_, _/_, _^_, _<_, _≤_};
 ghost use lib.IntN.{natAbs};
 ghost use Rattle.haar.specs.Places.{In-tree};
-ghost use Rattle.std.specs.Vec.{made};
 ghost use Rattle.warehouse.specs.Ask.{piece};
 ghost use Rattle.warehouse.specs.Read.{look, sight, halve, lower, read, start};
 use crate::fault::Fault;
@@ -66,7 +65,7 @@ fn reading_start(size: u8, level: u8) -> u8
 }
 
 // S(level, index), from slot 0 of the tile over it.
-fn read_sum<S: Store>(store: &S, size: u8, level: u8, index: u32) -> Result<i64, Fault>
+pub(crate) fn read_sum<S: Store>(store: &S, size: u8, level: u8, index: u32) -> Result<i64, Fault>
     requires low { ⌜ level ≤ size ⌝ }
     requires fits { ⌜ size ≤ 4 * means (now store) .bands ⌝ }
     requires inside { ⌜ index < 2 ^ (size - level) ⌝ }

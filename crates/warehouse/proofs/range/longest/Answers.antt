@@ -1,4 +1,4 @@
-use mathlib.Core.Path.{_≡_, sym, _∙_}
+use mathlib.Core.Path.{sym, _∙_}
 use native.Mathlib.Omega.{arith}
 use Rattle.warehouse.proofs.Pieces.{longest-less, longest-here, longest-zero, found}
 use Rattle.warehouse.proofs.range.longest.Needs as need

@@ -1,4 +1,4 @@
-use Prim.Native.Nat.{ℕ, _-_, _≤_}
+use Prim.Native.Nat.{_-_}
 use native.Mathlib.Omega.{arith}
 use mathlib.Core.Path.{_≡_, refl, sym, _∙_, ap}
 use mir.Syntax.{w64}
@@ -6,7 +6,7 @@ use mir.Val.{SFits}
 use borrow.Author.Needs.{needs}
 use Rattle.std.proofs.shelf.Results.{err-from-errBy}
 use Rattle.std.proofs.shelf.Signed.{toZ-ofZ}
-use Rattle.std.specs.declared.result.Result.the-variants.{Ok, Err}
+use Rattle.std.specs.declared.result.Result.the-variants.{Ok}
 use Rattle.warehouse.specs.Read.{look, start}
 use Rattle.warehouse.proofs.Descents.{on-the-way, tree-here, tree-over, first-there, first-found, way-first, way-end, way-lost, way-down, way-small}
 use Rattle.warehouse.proofs.read.read_sum.Needs as need

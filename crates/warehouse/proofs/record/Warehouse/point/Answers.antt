@@ -1,4 +1,4 @@
-use mathlib.Core.Path.{_≡_, sym, _∙_, ap}
+use mathlib.Core.Path.{sym, _∙_, ap}
 use Rattle.std.proofs.shelf.Results.{err-from-errBy}
 use Rattle.warehouse.specs.declared.fault.Asked.the-variants.{Minute}
 use Rattle.warehouse.specs.Ask.{refused, point-answer}

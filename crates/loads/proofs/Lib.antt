@@ -8,3 +8,4 @@ pub mod Partly
 pub mod Reading
 pub mod Adding
 pub mod Guarded
+pub mod Growing

@@ -6,3 +6,4 @@ pub mod Adds
 pub mod Addition
 pub mod Keeps
 pub mod Opening
+pub mod Growing

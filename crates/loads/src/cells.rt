@@ -32,7 +32,7 @@ fn added(number: i64, share: i64) -> Option<i64>
 }
 
 // 1 if a cell goes from zero to nonzero
-fn starts(number: i64, new: i64) -> u32
+pub(crate) fn starts(number: i64, new: i64) -> u32
     ensures { λ r. ⌜ r ≡ weight new - weight number ⌝ }
 {
     if number == 0 && new != 0 { 1 } else { 0 }

@@ -1,6 +1,7 @@
 // Additions to a warehouse: a chunk's cells, its share of each, and the writing.
 mod cells;
 mod chunk;
+pub mod growth;
 pub mod laws;
 pub mod loading;
 pub mod open;

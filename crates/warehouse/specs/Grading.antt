@@ -27,9 +27,13 @@ inside n j k = leb j n && ltb k (2 ^ (n - j))
 abbrev pub graded : ℕ → ℕ → ℤ → Result Trend Fault
 graded j c d = cond (leb (natAbs d) (2 ^ 53)) (Ok (trend-of j d)) (Err (Fine c))
 
+-- the trend of level j, from the difference in cell c
+abbrev pub graded-in : Meaning → ℕ → ℕ → Result Trend Fault
+graded-in m j c = _then_ (look m c) (graded j c)
+
 -- the trend of D(j,k), from its cell
 abbrev pub graded-at : Meaning → ℕ → ℕ → Result Trend Fault
-graded-at m j k = _then_ (look m (cell-number (m .bands) (Difference j k))) (graded j (cell-number (m .bands) (Difference j k)))
+graded-at m j k = graded-in m j (cell-number (m .bands) (Difference j k))
 
 -- Interval for a level that is 0 or over 20, Domain past the size, then the cell
 abbrev pub trend-reading : View → ℕ → ℕ → Result Trend Fault

@@ -4,8 +4,7 @@ ghost use Prim.Native.Nat.{ℕ, _-_, _^_, _<_, _≤_};
 ghost use lib.IntN.{natAbs};
 ghost use Rattle.haar.specs.Places.{In-tree};
 ghost use Rattle.haar.specs.Trend.{amount, trend-of};
-ghost use Rattle.warehouse.specs.Grading.{inside, graded, graded-at, trend-reading, trend-answer};
-ghost use Rattle.warehouse.specs.Read.{_then_, look};
+ghost use Rattle.warehouse.specs.Grading.{inside, graded, graded-in, graded-at, trend-reading, trend-answer};
 ghost use Rattle.warehouse.specs.View.{view};
 use crate::fault::Asked;
 use crate::fault::Fault;
@@ -59,7 +58,7 @@ fn grade(cell: u32, difference: i64, level: u8) -> Result<Trend, Fault>
 // The trend of the difference in a cell.
 fn grade_cell<S: Store>(store: &S, cell: u32, level: u8) -> Result<Trend, Fault>
     requires { ⌜ 1 ≤ level ⌝ ∗ ⌜ level ≤ 20 ⌝ }
-    ensures { λ r. ⌜ r ≡ _then_ (look (means (now (store .entry))) cell) (graded level cell) ⌝ }
+    ensures { λ r. ⌜ r ≡ graded-in (means (now (store .entry))) level cell ⌝ }
 {
     let difference = store.read(cell)?;
     grade(cell, difference, level)

@@ -18,11 +18,11 @@ use Rattle.warehouse.specs.View.{View}
 use Rattle.loads.specs.declared.open.OpenLoad.{OpenLoad}
 use Rattle.loads.specs.declared.open.RefusedLoad.{RefusedLoad}
 use Rattle.loads.specs.Addition.{Adds-point}
+use Rattle.loads.specs.Growing.{Growth}
 use Rattle.loads.specs.Opening.{Begins, Takes, Finishes}
 use Rattle.wire.specs.declared.command.Command.{Command}
 use Rattle.wire.specs.declared.command.Command.the-variants.{Grow, Begin, Value, Finish, GiveUp, Add, Point, Sum, Mean}
 use Rattle.wire.specs.declared.command.DecodeFault.{DecodeFault}
-use Rattle.wire.specs.declared.command.DecodeFault.the-variants.{Command as Unknown}
 use Rattle.feed.specs.declared.fault.Cause.{Cause}
 use Rattle.feed.specs.declared.fault.Cause.the-variants.{Decode, Sequence, Warehouse}
 use Rattle.feed.specs.declared.fault.FeedFault.{FeedFault}
@@ -66,6 +66,10 @@ mean-line r = line.Mean (r .value) (r .cells)
 -- a point addition, by the answer of the warehouse
 abbrev pub Adds : View → ℕ → ℤ → ℕ → Result Line FeedFault → View → Type 0
 Adds v i x o r v′ = (q : Result ℕ Refusal) × Adds-point v i x q v′ × (r ≡ told line.Added o q)
+
+-- a growth, by the answer of the warehouse
+abbrev pub Raises : View → ℕ → Result Line FeedFault → View → Type 0
+Raises v o r v′ = (q : Result ℕ Refusal) × Growth v q v′ × (r ≡ told line.Grown o q)
 
 -- the load after each of its calls
 abbrev pub begun : Result OpenLoad Refusal → Loading
@@ -115,8 +119,7 @@ Obeys v l zs (Add i x) o l′ r zs′ v′ = ((q : Result Line FeedFault) × Add
 Obeys v l zs (Point i) o l′ r zs′ v′ = (r ≡ printed (told point-line o (point-answer v i))) × (l′ ≡ l) × (zs′ ≡ zs) × (v′ ≡ v)
 Obeys v l zs (Sum a b) o l′ r zs′ v′ = (r ≡ printed (told sum-line o (sum-answer v a b))) × (l′ ≡ l) × (zs′ ≡ zs) × (v′ ≡ v)
 Obeys v l zs (Mean a b) o l′ r zs′ v′ = (r ≡ printed (told mean-line o (mean-answer v a b))) × (l′ ≡ l) × (zs′ ≡ zs) × (v′ ≡ v)
--- growth is not there yet, so its byte is unknown
-Obeys v l zs Grow o l′ r zs′ v′ = (r ≡ Err (record { cause = Decode Unknown; offset = o })) × (l′ ≡ l) × (zs′ ≡ zs) × (v′ ≡ v)
+Obeys v l zs Grow o l′ r zs′ v′ = ((q : Result Line FeedFault) × Raises v o q v′ × (r ≡ printed q)) × (l′ ≡ l) × (zs′ ≡ zs)
 
 -- a byte that is no command, and missing operands, end the feed
 abbrev pub after-fault : FeedFault → Cause → ℕ → Outcome

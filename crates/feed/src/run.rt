@@ -14,11 +14,11 @@ use crate::step::ask_sum;
 use crate::step::begin_load;
 use crate::step::finish_load;
 use crate::step::give_up_load;
+use crate::step::raise;
 use crate::step::take_value;
 use store::interface::Store;
 use warehouse::record::Warehouse;
 use wire::command::Command;
-use wire::command::DecodeFault;
 use wire::decode::decode;
 use wire::line::Line;
 
@@ -50,10 +50,7 @@ fn obey<S: Store>(
         Command::Point { minute } => (loading, printed(ask_point(warehouse, minute, offset))),
         Command::Sum { from, to } => (loading, printed(ask_sum(warehouse, from, to, offset))),
         Command::Mean { from, to } => (loading, printed(ask_mean(warehouse, from, to, offset))),
-        Command::Grow => (
-            loading,
-            Err(FeedFault::from((DecodeFault::Command, offset))),
-        ),
+        Command::Grow => (loading, printed(raise(warehouse, offset))),
     }
 }
 

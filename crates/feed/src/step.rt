@@ -2,7 +2,7 @@
 ghost use mathlib.Core.Path.{_≡_};
 ghost use Rattle.warehouse.specs.View.{view};
 ghost use Rattle.warehouse.specs.Ask.{point-answer, sum-answer, mean-answer};
-ghost use Rattle.feed.specs.Step.{told, point-line, sum-line, mean-line, Adds, Begun, Filled, Finished, GivenUp, out-of-sequence, refused};
+ghost use Rattle.feed.specs.Step.{told, point-line, sum-line, mean-line, Adds, Raises, Begun, Filled, Finished, GivenUp, out-of-sequence, refused};
 ghost use Rattle.feed.specs.declared.state.Loading.the-variants.{Open};
 ghost use Rattle.std.specs.declared.result.Result.the-variants.{Err};
 use crate::fault::Cause;
@@ -10,6 +10,7 @@ use crate::fault::FeedFault;
 use crate::numbers::FeedFromRefusal;
 use crate::numbers::placed;
 use crate::state::Loading;
+use loads::growth::grow;
 use loads::loading::begin;
 use loads::open::RefusedLoad;
 use loads::point::add_point;
@@ -27,6 +28,13 @@ pub(crate) fn add<S: Store>(
 {
     let cells = placed(add_point(warehouse, minute, i64::from(value)), offset)?;
     Ok(Line::Added { cells })
+}
+
+pub(crate) fn raise<S: Store>(warehouse: &mut Warehouse<S>, offset: u64) -> Result<Line, FeedFault>
+    ensures { λ r. ⌜ Raises (view (means (now (warehouse .entry) .store)) (now (warehouse .entry) .asked)) offset r (view (means (now (warehouse .exit) .store)) (now (warehouse .exit) .asked)) ⌝ }
+{
+    let size = placed(grow(warehouse), offset)?;
+    Ok(Line::Grown { size })
 }
 
 pub(crate) fn ask_point<S: Store>(

@@ -3,6 +3,8 @@ use feed::outcome::Outcome;
 use feed::run::end;
 use feed::run::step;
 use feed::state::Loading;
+use holdback::held::HoldBack;
+use holdback::layer::HoldBackStore;
 use std::error::AnyError;
 use std::io::Read;
 use std::io::Write;
@@ -62,7 +64,7 @@ fn play<S: Store>(
 fn run(rt: &LibcRuntime) -> Result<(), AnyError> {
     let mut bytes = Vec::new(rt.alloc());
     rt.stdin().read_to_end(&mut bytes)?;
-    let store = Sparse::new(3, 1024);
+    let store = HoldBack::new(Sparse::new(3, 1024));
     if survey(&store, 4).is_err() {
         return Err("the store is not empty".into());
     }

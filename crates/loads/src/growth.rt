@@ -121,7 +121,9 @@ fn raise<S: Store>(warehouse: &mut Warehouse<S>) -> Result<u8, Fault>
     if !is_small(total) {
         return Err(Fault::Large(cells.tile.unwrap_or(cells.top)));
     }
-    if !warehouse.store.fits(newly_filled(&warehouse.store, size, cells, total)) {
+    if !warehouse
+        .store
+        .fits(newly_filled(&warehouse.store, size, cells, total)) {
         return Err(Fault::Full);
     }
     write_total(&mut warehouse.store, size, cells, total);

@@ -115,12 +115,13 @@ impl OpenLoad {
     pub fn give_up(self) -> u32
         ensures { λ r. ⌜ r ≡ self .taken ⌝ }
     {
+        let values = self.taken;
         let OpenLoad {
             level: _,
             index: _,
-            taken,
+            taken: _,
         } = self;
-        taken
+        values
     }
 
     fn refused(self, fault: Fault) -> RefusedLoad

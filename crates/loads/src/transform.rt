@@ -70,7 +70,7 @@ impl Drop for Transformed<'_> {
 }
 
 impl Transformed<'_> {
-    pub fn view(&self) -> &[i64]
+    pub(crate) fn view(&self) -> &[i64]
         ensures { λ r. ⌜ now r ≡ now (now (self .entry) .numbers) ⌝ }
     {
         &self.numbers[..]

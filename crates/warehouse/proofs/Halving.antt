@@ -43,10 +43,10 @@ exact n k h kl =
     let back : (1074 - k) + k ≡ 1074 = omega arith in
     let split : 2 ^ 1074 ≡ 2 ^ (1074 - k) * 2 ^ k = ap (λ (x : ℕ). 2 ^ x) (sym back) ∙ pow-add 2 (1074 - k) k in
     elim (eq-or-lt-of-le h) [
-      inr lt ↦ round-exact binary64 false n (2 ^ k) n (1074 - k) (pow-pos k) lt
+      | inr lt ↦ round-exact binary64 false n (2 ^ k) n (1074 - k) (pow-pos k) lt
           (lt-of-lt-of-le (shl-lt 53 (1074 - k) lt) (pow-mono {j = 2098} (omega arith)))
           (ap (λ (x : ℕ). n * x) split ∙ sym (mul-assoc n (2 ^ (1074 - k)) (2 ^ k)))
-    | inl eq ↦ round-exact binary64 false n (2 ^ k) 1 (53 + (1074 - k)) (pow-pos k) (omega arith)
+      | inl eq ↦ round-exact binary64 false n (2 ^ k) 1 (53 + (1074 - k)) (pow-pos k) (omega arith)
           (lt-of-lt-of-le (shl-lt 1 (53 + (1074 - k)) (omega arith)) (pow-mono {j = 2098} (omega arith)))
           (ap (λ (x : ℕ). x * 2 ^ 1074) eq ∙ ap (λ (x : ℕ). 2 ^ 53 * x) split
           ∙ sym (mul-assoc (2 ^ 53) (2 ^ (1074 - k)) (2 ^ k))

@@ -35,8 +35,8 @@ impl Fault {
 pub impl From<CellFault> for Fault as FaultFromCell {
     ghost converts = { λ e r. r ≡ Cell e };
 
-    fn from(fault: CellFault) -> Fault {
-        Fault::Cell(fault)
+    fn from(refused: CellFault) -> Fault {
+        Fault::Cell(refused)
     }
 }
 

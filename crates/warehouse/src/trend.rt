@@ -87,10 +87,12 @@ impl<S: Store> Warehouse<S> {
     pub fn trend(&self, level: u8, index: u32) -> Result<Trend, Refusal>
         ensures { λ r. ⌜ r ≡ trend-answer (view (means (now (self .entry) .store)) (now (self .entry) .asked)) level index ⌝ }
     {
-        Ok(asking(
-            self.trend_reading(level, index),
-            Asked::Interval(level, index),
-        )?)
+        Ok(
+            asking(
+                self.trend_reading(level, index),
+                Asked::Interval(level, index),
+            )?,
+        )
     }
 
     fn trend_reading(&self, level: u8, index: u32) -> Result<Trend, Fault>

@@ -13,7 +13,7 @@ pub struct Text {
 }
 
 impl Text {
-    pub fn start(letter: u8) -> Text
+    pub(crate) fn start(letter: u8) -> Text
         ensures { λ r. ⌜ Holds r (letter ∷ []) ⌝ }
     {
         let mut bytes = [0; 48];
@@ -21,7 +21,7 @@ impl Text {
         Text { bytes, len: 1 }
     }
 
-    pub fn push(&mut self, byte: u8)
+    pub(crate) fn push(&mut self, byte: u8)
         requires { ⌜ now self .len < 48 ⌝ }
         ensures { λ _. ⌜ Adds (now (self .entry)) (byte ∷ []) (now (self .exit)) ⌝ }
     {
@@ -29,7 +29,7 @@ impl Text {
         self.len += 1;
     }
 
-    pub fn push_decimal(&mut self, n: u64)
+    pub(crate) fn push_decimal(&mut self, n: u64)
         requires { ⌜ now self .len + length (decimal n) ≤ 48 ⌝ }
         ensures { λ _. ⌜ Adds (now (self .entry)) (decimal n) (now (self .exit)) ⌝ }
     {
@@ -39,7 +39,7 @@ impl Text {
         self.push(b'0' + (n % 10) as u8);
     }
 
-    pub fn push_field(&mut self, n: u64)
+    pub(crate) fn push_field(&mut self, n: u64)
         requires { ⌜ now self .len + 21 ≤ 48 ⌝ }
         ensures adds { λ _. ⌜ Adds (now (self .entry)) (field n) (now (self .exit)) ⌝ }
         ensures room { λ _. ⌜ now (self .exit) .len ≤ now (self .entry) .len + 21 ⌝ }
@@ -48,7 +48,7 @@ impl Text {
         self.push_decimal(n);
     }
 
-    pub fn push_signed_field(&mut self, z: i64)
+    pub(crate) fn push_signed_field(&mut self, z: i64)
         requires { ⌜ now self .len + 21 ≤ 48 ⌝ }
         ensures adds { λ _. ⌜ Adds (now (self .entry)) (signed-field z) (now (self .exit)) ⌝ }
         ensures room { λ _. ⌜ now (self .exit) .len ≤ now (self .entry) .len + 21 ⌝ }

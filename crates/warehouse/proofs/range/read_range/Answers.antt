@@ -5,8 +5,13 @@ use Rattle.std.proofs.shelf.Bits.{one-shl}
 use Rattle.std.proofs.shelf.Results.{err-from-errBy}
 use Rattle.warehouse.specs.Read.{look}
 use Rattle.warehouse.proofs.Pieces.{below-top}
-use Rattle.warehouse.proofs.Progress.{small-sum, so-far-all, piece-small, piece-inside, piece-lost, piece-more}
+use Rattle.warehouse.proofs.Progress.{so-far-none, small-sum, so-far-all, piece-small, piece-inside, piece-lost, piece-more}
 use Rattle.warehouse.proofs.range.read_range.Needs as need
+
+pub loop-at-holds : need.loop-at-holds
+loop-at-holds g c =
+    let m = g .S·Store .means (c .args .store .now) in
+    so-far-none (m .bands) (c .args .size) (look m) (c .args .from) (c .args .to) (c .pre .most) (c .pre .inside) (c .pre .order)
 
 pub longest-level-requires : need.longest-level-requires
 longest-level-requires g c κs = (c .pre .most, below-top _ _ _ (c .pre .most) (c .pre .inside) (c .loop-at-test .taken))

@@ -1,0 +1,17 @@
+pub mod Cells
+pub mod Checks
+pub mod Shares
+pub mod Replies
+pub mod Steps
+pub mod Keeping
+pub mod Able
+pub mod Agreement
+pub mod Searches
+pub mod Worked
+pub mod Edges
+pub mod Fresh
+pub mod Additions
+pub mod Loading
+pub mod Growing
+pub mod Raising
+pub mod Calls

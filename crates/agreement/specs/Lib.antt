@@ -1,0 +1,11 @@
+pub mod Call
+pub mod Share
+pub mod Check
+pub mod Reply
+pub mod Step
+pub mod Steps
+pub mod History
+pub mod Agreement
+pub mod Worked
+pub mod Edges
+pub mod Laws

@@ -1,0 +1,2 @@
+// The agreement of two warehouses.
+pub mod laws;

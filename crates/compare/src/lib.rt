@@ -1,0 +1,3 @@
+// Two warehouses compared, and what their agreement is.
+pub mod comparing;
+pub mod comparison;

@@ -25,6 +25,7 @@ use wire::decode::decode;
 
 // The numbers of a flat store of 3 bands, and the minutes that it can hold.
 const CELLS: usize = 4368;
+
 const MINUTES: usize = 4096;
 
 // The whole feed, command by command.
@@ -62,9 +63,18 @@ fn report(rt: &LibcRuntime, tally: &Tally, found: Comparison) -> Result<(), AnyE
     let compared = tally.compared;
     let different = tally.different;
     let points = tally.points;
-    println!(rt, "{commands} commands were played into a hold-back layer over a sparse store")?;
-    println!(rt, "{compared} answers were compared with the plain minutes: {different} differ")?;
-    println!(rt, "the accepted additions went into a flat store too, as {points} points, last minute first")?;
+    println!(
+        rt,
+        "{commands} commands were played into a hold-back layer over a sparse store"
+    )?;
+    println!(
+        rt,
+        "{compared} answers were compared with the plain minutes: {different} differ"
+    )?;
+    println!(
+        rt,
+        "the accepted additions went into a flat store too, as {points} points, last minute first"
+    )?;
     match found {
         Comparison::Bands => println!(rt, "the two stores have not equally many bands")?,
         Comparison::Differ(cell) => println!(rt, "the two warehouses differ first in cell {cell}")?,

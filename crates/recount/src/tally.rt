@@ -43,7 +43,13 @@ impl Tally {
     }
 
     // One accepted point, by hand and in the second warehouse.
-    fn add<F: Store>(&mut self, fresh: &mut Warehouse<F>, minutes: &mut [i64], minute: u32, value: i64) {
+    fn add<F: Store>(
+        &mut self,
+        fresh: &mut Warehouse<F>,
+        minutes: &mut [i64],
+        minute: u32,
+        value: i64,
+    ) {
         add_to(minutes, minute as usize, value);
         self.points = self.points.saturating_add(1);
         if add_point(fresh, minute, value).is_err() {
@@ -52,7 +58,12 @@ impl Tally {
     }
 
     // An accepted load as points, its last minute first.
-    fn add_chunk<F: Store>(&mut self, fresh: &mut Warehouse<F>, minutes: &mut [i64], buffer: &[i64]) {
+    fn add_chunk<F: Store>(
+        &mut self,
+        fresh: &mut Warehouse<F>,
+        minutes: &mut [i64],
+        buffer: &[i64],
+    ) {
         let many = 1u32 << self.level.min(12);
         let first = self.index.saturating_mul(many);
         for place in (0..many).rev() {
@@ -62,7 +73,14 @@ impl Tally {
     }
 
     // One command and the line that it printed.
-    pub fn note<F: Store>(&mut self, fresh: &mut Warehouse<F>, minutes: &mut [i64], buffer: &[i64], command: Command, line: Option<Line>) {
+    pub fn note<F: Store>(
+        &mut self,
+        fresh: &mut Warehouse<F>,
+        minutes: &mut [i64],
+        buffer: &[i64],
+        command: Command,
+        line: Option<Line>,
+    ) {
         self.commands = self.commands.saturating_add(1);
         let Some(line) = line else {
             return;

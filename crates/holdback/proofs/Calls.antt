@@ -27,8 +27,8 @@ module _ (m : Meaning) (es : List Entry) (n c : ℕ) (x : ℤ) (r : Reads m c (O
   answered : {X : Type 0} → cell-count (m .bands) ≤ c → X
   answered h = let e = r .outside h in let z : _≡_ {A = ℕ} 0 1 = cc in absurd (omega arith)
 
-  pub reads-held : (at : ℕ) → Tidy es n → Held es n c at → Reads (held-over es n m) c (Ok (entry-at es at .value))
-  reads-held at t h = record { inside = λ _. ap (λ (v : ℤ). Ok v) (sym (over-held es n c at (m .cells) t h)); outside = answered }
+  pub reads-held : (at : ℕ) (v : ℤ) → v ≡ entry-at es at .value → Tidy es n → Held es n c at → Reads (held-over es n m) c (Ok v)
+  reads-held at v e t h = record { inside = λ _. ap (λ (z : ℤ). Ok z) (e ∙ sym (over-held es n c at (m .cells) t h)); outside = answered }
 
   pub reads-below : Lacks es n c → Reads (held-over es n m) c (Ok x)
   reads-below h = record { inside = λ l. r .inside l ∙ ap (λ (v : ℤ). Ok v) (sym (choose-none _ _ (miss es n c h))); outside = answered }

@@ -11,7 +11,7 @@ use Rattle.holdback.proofs.layer.HoldBackStore.read.Needs as need
 pub returns-in-Ok : need.returns-in-Ok
 returns-in-Ok g c =
     let f : SFits w64 (entry-at (c .args .self .now .held) (c .in-Ok .at) .value) = search needs in
-    simp toZ-ofZ (reads-held _ _ _ _ _ (c .in-Continue-below .ensures tt) _ (tidy (c .args .self .now)) (c .in-Ok .ensures tt))
+    reads-held (g .S·Store .means (c .args .self .now .below)) _ _ _ _ (c .in-Continue-below .ensures tt) _ _ (toZ-ofZ w64 _ f) (tidy (c .args .self .now)) (c .in-Ok .ensures tt)
 
 pub returns-in-Err : need.returns-in-Err
 returns-in-Err g c =

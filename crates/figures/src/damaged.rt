@@ -14,7 +14,7 @@ fn made(sum: i64, difference: i64) -> Warehouse<Sparse> {
     Warehouse::take_over(store, 1)
 }
 
-pub fn ask(rt: &LibcRuntime, sum: i64, difference: i64) -> Result<(), AnyError> {
+pub(crate) fn ask(rt: &LibcRuntime, sum: i64, difference: i64) -> Result<(), AnyError> {
     let warehouse = made(sum, difference);
     match warehouse.point(1) {
         Ok(reading) => {

@@ -46,7 +46,7 @@ fn tile_sums(sums: &[i64], band: usize, many: usize, cells: &mut [i64]) {
 }
 
 // All cells at a size; the minutes are used up.
-pub fn recount(minutes: &mut [i64], size: u8, cells: &mut [i64]) {
+pub(crate) fn recount(minutes: &mut [i64], size: u8, cells: &mut [i64]) {
     let size = size.min(20);
     if size == 0 {
         tile_sums(minutes, 0, 1, cells);

@@ -23,7 +23,7 @@ pub struct Tally {
 }
 
 impl Tally {
-    pub fn new() -> Tally {
+    pub(crate) fn new() -> Tally {
         Tally {
             commands: 0,
             compared: 0,
@@ -73,7 +73,7 @@ impl Tally {
     }
 
     // One command and the line that it printed.
-    pub fn note<F: Store>(
+    pub(crate) fn note<F: Store>(
         &mut self,
         fresh: &mut Warehouse<F>,
         minutes: &mut [i64],

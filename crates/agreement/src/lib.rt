@@ -1,2 +1,4 @@
 // The agreement of two warehouses.
+#![tactic(auto)]
+
 pub mod laws;

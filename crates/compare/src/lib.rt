@@ -1,3 +1,5 @@
 // Two warehouses compared, and what their agreement is.
+#![tactic(auto)]
+
 pub mod comparing;
 pub mod comparison;

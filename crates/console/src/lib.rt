@@ -1,4 +1,6 @@
 // A whole feed: bytes in, lines out, on any store.
+#![tactic(auto)]
+
 pub mod ends;
 pub mod fault;
 mod filling;

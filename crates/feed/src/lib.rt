@@ -1,4 +1,6 @@
 // The console feed: one command after another, to its line.
+#![tactic(auto)]
+
 pub mod fault;
 pub mod numbers;
 pub mod outcome;

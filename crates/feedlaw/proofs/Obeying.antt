@@ -79,9 +79,9 @@ module _ (F v : View) (h : History) (leads : Leads F h v) where
         let u : (k : ℕ) → Fills o k a x zs b.0 zs' (value_checks a.level a.taken zs) = λ k. fills o k a x zs zs' b.0 b.1 in
         still (value_turn (tally F.size h) (load_of (Open a)) zs x o) l' r zs' w s.1 (same-desk _ _ _ _ ((u 0).load ∙ ap load_of (sym b.2)) (u 0).values) (λ k. ap (λ y. after y k) b.3 ∙ (u k).line)
 
-    give-up-right : (l : Loading) → Obeys v l zs GiveUp o l' r zs' w → Turns F (give_up_turn (tally F.size h) (load_of l) zs o) l' r zs' w
-    give-up-right Idle s = still (give_up_turn (tally F.size h) (load_of Idle) zs o) l' r zs' w s.2 (same-desk _ _ _ _ (ap load_of (sym s.0.0)) (sym s.1)) (out o r s.0.1)
-    give-up-right (Open a) s = still (give_up_turn (tally F.size h) (load_of (Open a)) zs o) l' r zs' w s.2 (same-desk _ _ _ _ (ap load_of (sym s.0.0)) (sym s.1)) (λ k. ap (λ y. after y k) s.0.1)
+    give_up-right : (l : Loading) → Obeys v l zs GiveUp o l' r zs' w → Turns F (give_up_turn (tally F.size h) (load_of l) zs o) l' r zs' w
+    give_up-right Idle s = still (give_up_turn (tally F.size h) (load_of Idle) zs o) l' r zs' w s.2 (same-desk _ _ _ _ (ap load_of (sym s.0.0)) (sym s.1)) (out o r s.0.1)
+    give_up-right (Open a) s = still (give_up_turn (tally F.size h) (load_of (Open a)) zs o) l' r zs' w s.2 (same-desk _ _ _ _ (ap load_of (sym s.0.0)) (sym s.1)) (λ k. ap (λ y. after y k) s.0.1)
 
     -- a call of the warehouse, by its step
     called : (l : Loading) (call : Call) (a : Answer) (say : Line) → Step v call a w → l' ≡ l → zs' ≡ zs → ((k : ℕ) → after r k ≡ On (checked (refusal (recount F (tally F.size h)) call) o (Some say)) k)
@@ -138,9 +138,9 @@ module _ (F v : View) (h : History) (leads : Leads F h v) where
   refuses o say q e s k = ap (λ y. after (printed (told say o y)) k) s
 
   module _ (o : ℕ) where
-    point-line-right : (i k : ℕ) → after (printed (told point_line o (point_answer v i))) k ≡ On (checked (first (check (leb (2 ^ (tally F.size h).size) i) Domain ∷ [])) o (Some (line.Point ((tally F.size h).minutes i) (cells_read (tally F.size h).size 0)))) k
+    point_line-right : (i k : ℕ) → after (printed (told point_line o (point_answer v i))) k ≡ On (checked (first (check (leb (2 ^ (tally F.size h).size) i) Domain ∷ [])) o (Some (line.Point ((tally F.size h).minutes i) (cells_read (tally F.size h).size 0)))) k
     unfolding point_answer
-    point-line-right i k =
+    point_line-right i k =
         one_check (λ f. after (printed (told point_line o (point_answer v i))) k ≡ On (checked f o (Some (line.Point ((tally F.size h).minutes i) (cells_read (tally F.size h).size 0)))) k) Domain (leb (2 ^ (tally F.size h).size) i)
         (λ past.
         let d : leb (2 ^ v.size) i ≡ true = ap (λ n. leb (2 ^ n) i) size ∙ past in
@@ -149,9 +149,9 @@ module _ (F v : View) (h : History) (leads : Leads F h v) where
         let d : leb (2 ^ v.size) i ≡ false = ap (λ n. leb (2 ^ n) i) size ∙ within in
         gives o point_line (point_answer v i) _ _ _ ((reads_back v (tally F.size h).minutes holds).0 i (leb-false _ _ d)) (ap (λ n. cells_read n 0) size) k)
 
-    sum-line-right : (a b k : ℕ) → after (printed (told sum_line o (sum_answer v a b))) k ≡ On (checked (first (check (ltb b a) Range ∷ check (ltb (2 ^ (tally F.size h).size) b) Domain ∷ [])) o (Some (line.Sum (plain_sum (tally F.size h).minutes a (b - a)) (range_cells (tally F.size h).size a b)))) k
+    sum_line-right : (a b k : ℕ) → after (printed (told sum_line o (sum_answer v a b))) k ≡ On (checked (first (check (ltb b a) Range ∷ check (ltb (2 ^ (tally F.size h).size) b) Domain ∷ [])) o (Some (line.Sum (plain_sum (tally F.size h).minutes a (b - a)) (range_cells (tally F.size h).size a b)))) k
     unfolding sum_answer
-    sum-line-right a b k =
+    sum_line-right a b k =
         two-checks (λ f. after (printed (told sum_line o (sum_answer v a b))) k ≡ On (checked f o (Some (line.Sum (plain_sum (tally F.size h).minutes a (b - a)) (range_cells (tally F.size h).size a b)))) k) Range Domain (ltb b a) (ltb (2 ^ (tally F.size h).size) b)
         (λ back. refuses o sum_line (sum_answer v a b) (record { fault = Range; asked = Minutes a b }) (ap (ask.refused (Minutes a b)) (cond-true (ltb b a) (Err Range) _ back)) k)
         (λ front past.
@@ -161,9 +161,9 @@ module _ (F v : View) (h : History) (leads : Leads F h v) where
         let d : ltb (2 ^ v.size) b ≡ false = ap (λ n. ltb (2 ^ n) b) size ∙ within in
         gives o sum_line (sum_answer v a b) _ _ _ ((reads_back v (tally F.size h).minutes holds).1 a b (ltb-false _ _ front) (ltb-false _ _ d)) (ap (λ n. range_cells n a b) size) k)
 
-    mean-line-right : (a b k : ℕ) → after (printed (told mean_line o (mean_answer v a b))) k ≡ On (checked (first (check (leb b a) Range ∷ check (ltb (2 ^ (tally F.size h).size) b) Domain ∷ [])) o (Some (line.Mean (floor (plain_sum (tally F.size h).minutes a (b - a)) (b - a)) (range_cells (tally F.size h).size a b)))) k
+    mean_line-right : (a b k : ℕ) → after (printed (told mean_line o (mean_answer v a b))) k ≡ On (checked (first (check (leb b a) Range ∷ check (ltb (2 ^ (tally F.size h).size) b) Domain ∷ [])) o (Some (line.Mean (floor (plain_sum (tally F.size h).minutes a (b - a)) (b - a)) (range_cells (tally F.size h).size a b)))) k
     unfolding mean_answer
-    mean-line-right a b k =
+    mean_line-right a b k =
         two-checks (λ f. after (printed (told mean_line o (mean_answer v a b))) k ≡ On (checked f o (Some (line.Mean (floor (plain_sum (tally F.size h).minutes a (b - a)) (b - a)) (range_cells (tally F.size h).size a b)))) k) Range Domain (leb b a) (ltb (2 ^ (tally F.size h).size) b)
         (λ none. refuses o mean_line (mean_answer v a b) (record { fault = Range; asked = Minutes a b }) (ap (ask.refused (Minutes a b)) (cond-true (leb b a) (Err Range) _ none)) k)
         (λ some past.
@@ -181,9 +181,9 @@ pub obeyed_right : ObeyedRight
 obeyed_right F v w h l l' zs zs' (Begin m p) o r leads s = begun-right F v h leads zs zs' o l' r w l m p s
 obeyed_right F v w h l l' zs zs' (Value x) o r leads s = value-right F v h leads zs zs' o l' r w l x s
 obeyed_right F v w h l l' zs zs' Finish o r leads s = finish-right F v h leads zs zs' o l' r w l s
-obeyed_right F v w h l l' zs zs' GiveUp o r leads s = give-up-right F v h leads zs zs' o l' r w l s
+obeyed_right F v w h l l' zs zs' GiveUp o r leads s = give_up-right F v h leads zs zs' o l' r w l s
 obeyed_right F v w h l l' zs zs' (Add i x) o r leads s = add_right F v h leads zs zs' o l' r w l i x s
 obeyed_right F v w h l l' zs zs' Grow o r leads s = grow-right F v h leads zs zs' o l' r w l s
-obeyed_right F v w h l l' zs zs' (Point i) o r leads s = asked F v h leads zs zs' o l' r w l point_line (point_answer v i) _ s.0 s.1 s.2 s.3 (point-line-right F v h leads o i)
-obeyed_right F v w h l l' zs zs' (Sum a b) o r leads s = asked F v h leads zs zs' o l' r w l sum_line (sum_answer v a b) _ s.0 s.1 s.2 s.3 (sum-line-right F v h leads o a b)
-obeyed_right F v w h l l' zs zs' (Mean a b) o r leads s = asked F v h leads zs zs' o l' r w l mean_line (mean_answer v a b) _ s.0 s.1 s.2 s.3 (mean-line-right F v h leads o a b)
+obeyed_right F v w h l l' zs zs' (Point i) o r leads s = asked F v h leads zs zs' o l' r w l point_line (point_answer v i) _ s.0 s.1 s.2 s.3 (point_line-right F v h leads o i)
+obeyed_right F v w h l l' zs zs' (Sum a b) o r leads s = asked F v h leads zs zs' o l' r w l sum_line (sum_answer v a b) _ s.0 s.1 s.2 s.3 (sum_line-right F v h leads o a b)
+obeyed_right F v w h l l' zs zs' (Mean a b) o r leads s = asked F v h leads zs zs' o l' r w l mean_line (mean_answer v a b) _ s.0 s.1 s.2 s.3 (mean_line-right F v h leads o a b)

@@ -1,5 +1,7 @@
 // Loads of several levels and sizes on a flat store, each cell compared with a plain recount of the minutes; and questions
 // on damaged cells.
+#![tactic(auto)]
+
 mod damaged;
 mod plain;
 

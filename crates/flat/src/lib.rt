@@ -1,4 +1,6 @@
 // The flat store: its cells are the numbers of a slice of the caller's.
+#![tactic(auto)]
+
 pub mod flat_store;
 pub mod making;
 pub mod slice;

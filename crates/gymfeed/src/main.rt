@@ -1,4 +1,6 @@
 // A console feed on standard input, its lines on standard output.
+#![tactic(auto)]
+
 mod standard;
 
 use anyhow::anyhow;

@@ -1,4 +1,6 @@
 // The hold-back layer: a store that holds a few numbers over another store.
+#![tactic(auto)]
+
 mod changes;
 pub mod held;
 pub mod layer;

@@ -1,4 +1,6 @@
 // Additions to a warehouse: a chunk's cells, its share of each, and the writing.
+#![tactic(auto)]
+
 mod cells;
 mod chunk;
 pub mod growth;

@@ -1,4 +1,6 @@
 // What any store means, and the stores.
+#![tactic(auto)]
+
 pub mod entry;
 pub mod fault;
 pub mod interface;

@@ -1,4 +1,6 @@
 // The warehouse: its record over any store, founding, and questions.
+#![tactic(auto)]
+
 pub mod ask;
 pub mod fault;
 pub mod founding;

@@ -18,6 +18,6 @@ returns g c =
     let K' = g.O.Sink.took c.pump-loading.new.sink in
     let K'' = g.O.Sink.took c.print.new.sink in
     whole v v' l' c.args.buffer.now c.pump-loading.new.buffer G K K' K'' (g.O.Sink.took c.flush.new.self)
-    (drained (state v Idle c.args.buffer.now) (state v' l' c.pump-loading.new.buffer) G (g.I.Source.gives c.pump-loading.new.source) (g.I.Source.broken c.pump-loading.new.source) K K' (g.O.Sink.stuck c.pump-loading.new.sink) c.pump-loading.result.1 c.in-default.field-0 c.in-default.is c.pump-loading.ensures)
+    (drained (state v Idle c.args.buffer.now) (state v' l' c.pump-loading.new.buffer) G (g.I.Source.gives c.pump-loading.new.source) (g.I.Source.broken c.pump-loading.new.source) K K' (g.O.Sink.stuck c.pump-loading.new.sink) c.pump-loading.result.1 c.in_default.field-0 c.in_default.is c.pump-loading.ensures)
     (subst (λ x. Takes K' K'' (g.O.Sink.stuck c.print.new.sink) (text (shown x)) (Ok tt)) c.end-line.ensures c.in-Ok.ensures)
     c.in-Ok-flush.ensures

@@ -11,4 +11,4 @@ returns-in-Ok c =
 pub returns-in-Err : goal.returns-in-Err
 returns-in-Err c =
     let e : to_z w64 (of_z w64 c.from.result) ≡ c.args.value = omega (arith, ints) in
-    rw c.in-Open.is (Err c.in-Err.back, subst (λ x. Takes c.in-Open.load x c.args.buffer.now (Err c.in-Err.back) c.value.new.buffer) e c.in-Err.ensures, c.handed-back.ensures.load, c.handed-back.ensures.refusal)
+    rw c.in-Open.is (Err c.in-Err.back, subst (λ x. Takes c.in-Open.load x c.args.buffer.now (Err c.in-Err.back) c.value.new.buffer) e c.in-Err.ensures, c.handed_back.ensures.load, c.handed_back.ensures.refusal)

@@ -3,12 +3,12 @@ use Rattle.std.proofs.lemmas.Nat.{one_shl}
 use Rattle.haar.proofs.Places.{difference_parts}
 use Rattle.haar.proofs.cells.difference_cell.Goals as goal
 
-pub overflow-mul-result : goal.overflow-mul-result
-overflow-mul-result c =
+pub overflow_mul-result : goal.overflow_mul-result
+overflow_mul-result c =
     let e = one_shl (4 * ((c.args.level - 1) / 4) + 4 - c.args.level) 32 (omega arith) in
-    omega (arith, difference_parts _ _ _ _ _ (c.in-tree.ensures.yes c.if-not-in-tree.false) (omega arith) c.tiles-before.ensures.is e)
+    omega (arith, difference_parts _ _ _ _ _ (c.in_tree.ensures.yes c.if-not-in_tree.false) (omega arith) c.tiles_before.ensures.is e)
 
-pub overflow-add-result-3 : goal.overflow-add-result-3
-overflow-add-result-3 c =
+pub overflow_add-result-3 : goal.overflow_add-result-3
+overflow_add-result-3 c =
     let e = one_shl (4 * ((c.args.level - 1) / 4) + 4 - c.args.level) 32 (omega arith) in
-    omega (arith, difference_parts _ _ _ _ _ (c.in-tree.ensures.yes c.if-not-in-tree.false) (omega arith) c.tiles-before.ensures.is e)
+    omega (arith, difference_parts _ _ _ _ _ (c.in_tree.ensures.yes c.if-not-in_tree.false) (omega arith) c.tiles_before.ensures.is e)

@@ -22,8 +22,8 @@ pub returns-in-4 : goal.returns-in-4
 unfolding tiles_before
 returns-in-4 c = record { is = ap (λ a. tiles_before (min a 5)) (sym c.in-4.is); most = omega arith }
 
-pub returns-in-default : goal.returns-in-default
+pub returns-in_default : goal.returns-in_default
 unfolding tiles_before
-returns-in-default c =
+returns-in_default c =
     let e : 5 ≡ min c.args.above 5 = omega arith in
     record { is = ap tiles_before e; most = omega arith }

@@ -11,7 +11,7 @@ loop-band-init c =
     (omega arith, omega arith)
 
 pub loop-band-preserved : goal.loop-band-preserved
-loop-band-preserved c = rw add-one (omega (arith, c.tiles-met-count.ensures.value), omega arith)
+loop-band-preserved c = rw add-one (omega (arith, c.tiles_met-count.ensures.value), omega arith)
 
 pub returns : goal.returns
 returns c =

@@ -10,26 +10,26 @@ use Rattle.loads.proofs.cells.check_cells.Goals as goal
 pub loop-touch-init : goal.loop-touch-init
 loop-touch-init g c = seen_start _ _ _ _ _ _
 
-pub returns-in-default-read : goal.returns-in-default-read
-returns-in-default-read g c =
+pub returns-in_default-read : goal.returns-in_default-read
+returns-in_default-read g c =
     let l = seen-in _ _ _ _ _ _ c.args.reach.some c.args.reach.held _ _ c.loop-touch.invariant _ _ c.in-Some.ensures in
-    absurd (read_done _ _ _ _ c.requires.1 l c.in-default-read.ensures)
+    absurd (read_done _ _ _ _ c.requires.1 l c.in_default-read.ensures)
 
-pub returns-in-default-added : goal.returns-in-default-added
-returns-in-default-added g c =
+pub returns-in_default-added : goal.returns-in_default-added
+returns-in_default-added g c =
     let l = seen-in _ _ _ _ _ _ c.args.reach.some c.args.reach.held _ _ c.loop-touch.invariant _ _ c.in-Some.ensures in
     let f : SFits w64 c.in-Ok.number = search rules in
     let h : SFits w64 c.share.result = search rules in
     let e = ap₂ ◌+ℤ◌ (to_z-of_z w64 _ f ∙ read_is _ _ _ _ c.requires.1 l c.in-Ok.ensures) (to_z-of_z w64 _ h ∙ c.share.ensures) in
-    seen-large _ _ _ _ _ _ c.args.reach.some c.args.reach.held _ _ c.loop-touch.invariant _ _ c.in-Some.ensures (λ sm. c.in-default-added.ensures (subst Small (sym e) sm))
+    seen-large _ _ _ _ _ _ c.args.reach.some c.args.reach.held _ _ c.loop-touch.invariant _ _ c.in-Some.ensures (λ sm. c.in_default-added.ensures (subst Small (sym e) sm))
 
-pub overflow-add-started : goal.overflow-add-started
-overflow-add-started g c =
+pub overflow_add-started : goal.overflow_add-started
+overflow_add-started g c =
     let i = c.loop-touch.invariant in
     omega (arith, i.few, i.below, used_most (to_z w64 (of_z w64 c.in-Some-added.new)), count_most c.args.reach.bands c.args.reach.few)
 
-pub overflow-add-from : goal.overflow-add-from
-overflow-add-from g c =
+pub overflow_add-from : goal.overflow_add-from
+overflow_add-from g c =
     let l = seen-in _ _ _ _ _ _ c.args.reach.some c.args.reach.held _ _ c.loop-touch.invariant _ _ c.in-Some.ensures in
     omega (arith, count_most c.args.reach.bands c.args.reach.few)
 
@@ -46,4 +46,4 @@ loop-touch-preserved g c =
     (ap (λ z. c.loop-touch.started + z) (c.starts-started.ensures ∙ ap₂ (λ x y. weight x - weight y) (to_z-of_z w64 _ n ∙ a.0 ∙ e) r))
 
 pub returns : goal.returns
-returns g c = seen_end _ _ _ _ _ _ c.args.reach.some c.args.reach.held _ _ c.loop-touch.invariant c.in-default.ensures
+returns g c = seen_end _ _ _ _ _ _ c.args.reach.some c.args.reach.held _ _ c.loop-touch.invariant c.in_default.ensures

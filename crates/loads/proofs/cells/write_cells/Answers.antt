@@ -17,8 +17,8 @@ returns-in-err-number g c =
     let l = cell_in _ _ _ _ _ c.args.reach.some c.args.reach.held _ _ _ c.loop-touch.invariant _ _ c.in-Some.ensures in
     absurd (read_done _ _ _ _ c.loop-touch.invariant.bands l c.in-err-number.ensures)
 
-pub overflow-add-number : goal.overflow-add-number
-overflow-add-number g c =
+pub overflow_add-number : goal.overflow_add-number
+overflow_add-number g c =
     let f : SFits w64 c.in-ok-number.number = search rules in
     let h : SFits w64 c.share-share.result = search rules in
     sum_fits _ _ _ _ _ c.args.reach.some c.args.reach.held _ _ _ c.loop-touch.invariant _ _ c.in-Some.ensures _ _ f h c.in-ok-number.ensures c.share-share.ensures c.requires.small
@@ -39,10 +39,10 @@ loop-touch-preserved g c =
     let e = new_is _ _ _ _ _ c.args.reach.some c.args.reach.held _ _ _ c.loop-touch.invariant _ _ c.in-Some.ensures _ _ f h c.in-ok-number.ensures c.share-share.ensures c.requires.small in
     partly-step _ _ _ _ _ c.args.reach.some c.args.reach.held _ _ _ c.loop-touch.invariant _ _ c.in-Some.ensures _ _ e (c.write.ensures.put c.in-ok-write.was)
 
-pub overflow-add-from : goal.overflow-add-from
-overflow-add-from g c =
+pub overflow_add-from : goal.overflow_add-from
+overflow_add-from g c =
     let l = cell_in _ _ _ _ _ c.args.reach.some c.args.reach.held _ _ _ c.loop-touch.invariant _ _ c.in-Some.ensures in
     omega (arith, count_most c.args.reach.bands c.args.reach.few)
 
 pub returns : goal.returns
-returns g c = record { done = refl; stored = partly-end _ _ _ _ _ c.args.reach.some c.args.reach.held _ _ _ c.loop-touch.invariant c.requires.bands c.in-default.ensures }
+returns g c = record { done = refl; stored = partly-end _ _ _ _ _ c.args.reach.some c.args.reach.held _ _ _ c.loop-touch.invariant c.requires.bands c.in_default.ensures }

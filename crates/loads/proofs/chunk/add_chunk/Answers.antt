@@ -6,8 +6,8 @@ use Rattle.loads.proofs.Guarded.{back, restored, ready, droppable}
 use Rattle.loads.proofs.Adding.{same-large, same-clears, same-stored, crowded, fits-any, took}
 use Rattle.loads.proofs.chunk.add_chunk.Goals as goal
 
-pub check-cells-requires : goal.check-cells-requires
-check-cells-requires g c = (ready _ _ _ c.requires.many (c.view.ensures ∙ c.transform.ensures) c.requires.within, c.requires.bands)
+pub check_cells-requires : goal.check_cells-requires
+check_cells-requires g c = (ready _ _ _ c.requires.many (c.view.ensures ∙ c.transform.ensures) c.requires.within, c.requires.bands)
 
 pub drop-guard-requires : goal.drop-guard-requires
 drop-guard-requires g c = droppable _ _ _ c.requires.many c.transform.ensures c.requires.within c.args.reach.short
@@ -31,8 +31,8 @@ returns-then-not-fits g c =
       adds = (crowded _ _ _ _ _ (g.S.Store.means c.args.store.now) _ (same-clears _ _ _ _ _ _ b _ _ c.in-Ok.ensures) c.args.reach.some c.args.reach.held c.args.reach.low (minutes-chunk _ _ _) (c.if-not-fits.ensures.none refl), refl);
     }
 
-pub write-cells-requires : goal.write-cells-requires
-write-cells-requires g c =
+pub write_cells-requires : goal.write_cells-requires
+write_cells-requires g c =
     let b = back _ _ _ c.requires.many (c.view.ensures ∙ c.transform.ensures) in
     let d = back _ _ _ c.requires.many (c.view-2.ensures ∙ c.transform.ensures) in
     let k = same-clears _ _ _ _ _ _ (b ∙ sym d) _ _ c.in-Ok.ensures in
@@ -53,5 +53,5 @@ returns g c =
     let k = same-clears _ _ _ _ _ _ b _ _ c.in-Ok.ensures in
     record {
       restored = restored _ _ _ c.requires.many c.transform.ensures _ c.drop-guard-2.ensures;
-      adds = took _ _ _ _ _ (g.S.Store.means c.args.store.now) _ k _ _ (c.cells-written.ensures.there c.args.reach.short c.args.reach.low (omega arith)) (c.if-not-fits.ensures.yes refl) (same-stored _ _ _ _ _ _ d _ _ c.write-cells.ensures.stored);
+      adds = took _ _ _ _ _ (g.S.Store.means c.args.store.now) _ k _ _ (c.cells_written.ensures.there c.args.reach.short c.args.reach.low (omega arith)) (c.if-not-fits.ensures.yes refl) (same-stored _ _ _ _ _ _ d _ _ c.write_cells.ensures.stored);
     }

@@ -4,10 +4,10 @@ use Rattle.loads.specs.Growing.{total_cell}
 use Rattle.loads.proofs.Growing.{total-below}
 use Rattle.loads.proofs.growth.raise.Goals as goal
 
-pub number-in-total-requires : goal.number-in-total-requires
-number-in-total-requires g c =
+pub number_in-total-requires : goal.number_in-total-requires
+number_in-total-requires g c =
     let m = g.S.Store.means c.args.warehouse.now.store in
     let b = c.bands-bands.ensures.is in
-    let e = c.growth-cells-cells.ensures.total ∙ ap (λ t. total_cell t c.size-size.result) b in
+    let e = c.growth_cells-cells.ensures.total ∙ ap (λ t. total_cell t c.size-size.result) b in
     let lt : c.size-size.result < 4 * m.bands = omega (arith, b) in
     subst (λ x. x < cell_count m.bands) (sym e) (total-below m.bands c.size-size.result lt)

@@ -2,23 +2,23 @@ use Rattle.std.proofs.Common.{◌≡◌, ◌+◌, ◌-◌, ◌*◌, ◌/◌, ◌
 use Rattle.loads.proofs.Meeting.{span_fits}
 use Rattle.loads.proofs.touched.cells_met.Goals as goal
 
-fits : (c : goal.After-tiles-above) → c.tiles-above.result + c.args.reach.index / 2 ^ c.saturating-sub.result * 2 ^ c.saturating-sub-more.result + 2 ^ c.saturating-sub-more.result ≤ 69905
-fits c = span_fits _ c.args.reach.size c.args.reach.level _ c.args.band _ _ _ c.requires c.args.reach.few c.args.reach.held c.args.reach.low c.args.reach.inside c.saturating-sub.ensures c.saturating-sub-more.ensures c.tiles-above.ensures
+fits : (c : goal.After-tiles_above) → c.tiles_above.result + c.args.reach.index / 2 ^ c.saturating_sub.result * 2 ^ c.saturating_sub-more.result + 2 ^ c.saturating_sub-more.result ≤ 69905
+fits c = span_fits _ c.args.reach.size c.args.reach.level _ c.args.band _ _ _ c.requires c.args.reach.few c.args.reach.held c.args.reach.low c.args.reach.inside c.saturating_sub.ensures c.saturating_sub-more.ensures c.tiles_above.ensures
 
-pub overflow-add-start : goal.overflow-add-start
-overflow-add-start c = omega (arith, fits c)
+pub overflow_add-start : goal.overflow_add-start
+overflow_add-start c = omega (arith, fits c)
 
-pub overflow-mul-start : goal.overflow-mul-start
-overflow-mul-start c = omega (arith, fits c)
+pub overflow_mul-start : goal.overflow_mul-start
+overflow_mul-start c = omega (arith, fits c)
 
-pub overflow-add-result : goal.overflow-add-result
-overflow-add-result c = omega (arith, fits c)
+pub overflow_add-result : goal.overflow_add-result
+overflow_add-result c = omega (arith, fits c)
 
 pub returns : goal.returns
 returns c =
     let b = fits c in
-    let t = c.tiles-above.ensures in
-    let m = ap (λ x. 2 ^ x) c.saturating-sub-more.ensures in
-    let f : c.args.reach.index / 2 ^ c.saturating-sub.result * 2 ^ c.saturating-sub-more.result ≡ c.args.reach.index / 2 ^ (4 * c.args.band + 4 - c.args.reach.level) * 2 ^ (c.args.reach.level - (4 * c.args.band + 4)) =
-    ap₂ (λ x y. c.args.reach.index / 2 ^ x * 2 ^ y) c.saturating-sub.ensures c.saturating-sub-more.ensures in
+    let t = c.tiles_above.ensures in
+    let m = ap (λ x. 2 ^ x) c.saturating_sub-more.ensures in
+    let f : c.args.reach.index / 2 ^ c.saturating_sub.result * 2 ^ c.saturating_sub-more.result ≡ c.args.reach.index / 2 ^ (4 * c.args.band + 4 - c.args.reach.level) * 2 ^ (c.args.reach.level - (4 * c.args.band + 4)) =
+    ap₂ (λ x y. c.args.reach.index / 2 ^ x * 2 ^ y) c.saturating_sub.ensures c.saturating_sub-more.ensures in
     record { from = omega arith; to = omega arith }

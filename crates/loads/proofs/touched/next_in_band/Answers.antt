@@ -6,25 +6,25 @@ use Rattle.loads.proofs.Meeting.{in_span, span_inside, cell_one}
 use Rattle.loads.proofs.touched.next_in_band.Goals as goal
 
 pub loop-cell-init : goal.loop-cell-init
-loop-cell-init c = λ s me b lo. omega (arith, in_span _ _ _ _ _ _ _ s c.args.reach.some c.cells-met-start.ensures me b)
+loop-cell-init c = λ s me b lo. omega (arith, in_span _ _ _ _ _ _ _ s c.args.reach.some c.cells_met-start.ensures me b)
 
-pub in-cell-coefficient-requires : goal.in-cell-coefficient-requires
-in-cell-coefficient-requires c =
-    let i = span_inside _ _ _ _ _ _ _ c.requires c.args.reach.held c.args.reach.low c.args.reach.inside c.cells-met-start.ensures in
+pub in_cell-coefficient-requires : goal.in_cell-coefficient-requires
+in_cell-coefficient-requires c =
+    let i = span_inside _ _ _ _ _ _ _ c.requires c.args.reach.held c.args.reach.low c.args.reach.inside c.cells_met-start.ensures in
     (c.requires, (omega arith, omega arith))
 
 pub loop-cell-preserved : goal.loop-cell-preserved
 loop-cell-preserved c = λ s me b lo.
-    let i = span_inside _ _ _ _ _ _ _ c.requires c.args.reach.held c.args.reach.low c.args.reach.inside c.cells-met-start.ensures in
+    let i = span_inside _ _ _ _ _ _ _ c.requires c.args.reach.held c.args.reach.low c.args.reach.inside c.cells_met-start.ensures in
     let le = c.loop-cell.invariant s me b lo in
     ⊎_elim
     (λ (e : cell_number c.args.reach.bands s ≡ c.loop-cell.cell).
-    absurd (c.meets.ensures.none c.if-meets.false (subst (Meets _ _ _) (cell_one _ _ _ _ _ _ _ s c.args.reach.some c.args.reach.held c.requires (omega arith) (omega arith) c.in-cell-coefficient.ensures me e) me)))
+    absurd (c.meets.ensures.none c.if-meets.false (subst (Meets _ _ _) (cell_one _ _ _ _ _ _ _ s c.args.reach.some c.args.reach.held c.requires (omega arith) (omega arith) c.in_cell-coefficient.ensures me e) me)))
     (λ ne. omega arith)
     (cases_eq (cell_number c.args.reach.bands s) c.loop-cell.cell)
 
 pub returns : goal.returns
 returns c = λ s me b.
-    let i = in_span _ _ _ _ _ _ _ s c.args.reach.some c.cells-met-start.ensures me b in
+    let i = in_span _ _ _ _ _ _ _ s c.args.reach.some c.cells_met-start.ensures me b in
     ⊎_elim (λ lt. lt) (λ le. let lo = c.loop-cell.invariant s me b le in absurd (omega arith))
     (cases_lt (cell_number c.args.reach.bands s) c.args.from)

@@ -14,8 +14,8 @@ loop-at-init g c =
 pub longest-level-requires : goal.longest-level-requires
 longest-level-requires g c = (c.requires.most, below_top _ _ _ c.requires.most c.requires.inside c.loop-at-test.true)
 
-pub read-piece-requires : goal.read-piece-requires
-read-piece-requires g c =
+pub read_piece-requires : goal.read_piece-requires
+read_piece-requires g c =
     let m = g.S.Store.means c.args.store.now in
     let p = piece_inside m.bands _ (look m) _ _ c.requires.most c.requires.inside _ _ c.loop-at.invariant c.loop-at-test.true _ c.longest-level.ensures.is in
     record { low = p.0; fits = c.requires.fits; inside = p.1 }
@@ -23,14 +23,14 @@ read-piece-requires g c =
 pub returns-in-err-piece : goal.returns-in-err-piece
 returns-in-err-piece g c =
     let m = g.S.Store.means c.args.store.now in
-    let p = err_from_is_err_and c.from-residual.result c.from-residual.ensures.1 in
-    rw (p.1, p.2) (piece-lost m.bands _ (look m) _ _ c.requires.most c.requires.inside _ _ c.loop-at.invariant c.loop-at-test.true _ c.longest-level.ensures.is c.in-err-piece.field-0.0 (sym c.read-piece.ensures ∙ c.in-err-piece.was))
+    let p = err_from_is_err_and c.from_residual.result c.from_residual.ensures.1 in
+    rw (p.1, p.2) (piece-lost m.bands _ (look m) _ _ c.requires.most c.requires.inside _ _ c.loop-at.invariant c.loop-at-test.true _ c.longest-level.ensures.is c.in-err-piece.field-0.0 (sym c.read_piece.ensures ∙ c.in-err-piece.was))
 
 pub joined-sum-requires : goal.joined-sum-requires
 joined-sum-requires g c =
     let m = g.S.Store.means c.args.store.now in
     let s = small-sum m.bands _ (look m) _ _ c.requires.most c.requires.inside _ _ c.loop-at.invariant in
-    let p = piece_small m.bands c.args.size (look m) _ _ c.in-ok-piece.piece (sym c.read-piece.ensures ∙ c.in-ok-piece.was) in
+    let p = piece_small m.bands c.args.size (look m) _ _ c.in-ok-piece.piece (sym c.read_piece.ensures ∙ c.in-ok-piece.was) in
     (s.0, (p.0, omega (arith, s.1, p.1)))
 
 pub loop-at-preserved : goal.loop-at-preserved
@@ -39,7 +39,7 @@ loop-at-preserved g c =
     let low = c.longest-level.ensures.low in
     let e = one_shl c.longest-level.result 32 (omega arith) in
     piece-more m.bands _ (look m) _ _ c.requires.most c.requires.inside _ _ c.loop-at.invariant c.loop-at-test.true _ c.longest-level.ensures.is
-    c.in-ok-piece.piece _ _ (sym c.read-piece.ensures ∙ c.in-ok-piece.was) (omega arith) c.joined-sum.ensures
+    c.in-ok-piece.piece _ _ (sym c.read_piece.ensures ∙ c.in-ok-piece.was) (omega arith) c.joined-sum.ensures
 
 pub returns : goal.returns
 returns g c =

@@ -9,14 +9,14 @@ pub unwrap-first-requires : goal.unwrap-first-requires
 unwrap-first-requires g c =
     let m = g.S.Store.means c.args.store.now in
     let t = tree-here m.bands c.args.size c.args.level c.args.index c.bands.ensures.lawful.few c.requires.low c.requires.fits c.requires.inside in
-    first-there m.bands _ _ _ _ c.bands.ensures.is t c.sum-cell.ensures
+    first-there m.bands _ _ _ _ c.bands.ensures.is t c.sum_cell.ensures
 
 pub returns-in-err-sum : goal.returns-in-err-sum
 returns-in-err-sum g c =
     let m = g.S.Store.means c.args.store.now in
-    let p = err_from_is_err_and c.from-residual.result c.from-residual.ensures.1 in
+    let p = err_from_is_err_and c.from_residual.result c.from_residual.ensures.1 in
     let t = tree-here m.bands c.args.size c.args.level c.args.index c.bands.ensures.lawful.few c.requires.low c.requires.fits c.requires.inside in
-    let e = first_found m.bands _ _ _ _ c.bands.ensures.is t c.sum-cell.ensures _ c.unwrap-first.ensures in
+    let e = first_found m.bands _ _ _ _ c.bands.ensures.is t c.sum_cell.ensures _ c.unwrap-first.ensures in
     rw (p.1, p.2) (way-lost m.bands c.args.size (look m) c.args.level c.args.index (start c.args.size c.args.level - c.args.level) c.in-err-sum.field-0.0 (omega arith)
     (sym c.in-err-sum.was ∙ c.seen.ensures ∙ way-first m.bands c.args.size (look m) c.args.level c.args.index _ _ e refl))
 
@@ -25,15 +25,15 @@ loop-below-init g c =
     let m = g.S.Store.means c.args.store.now in
     let f : SFits w64 c.in-ok-sum.sum = search rules in
     let t = tree-here m.bands c.args.size c.args.level c.args.index c.bands.ensures.lawful.few c.requires.low c.requires.fits c.requires.inside in
-    let e = first_found m.bands _ _ _ _ c.bands.ensures.is t c.sum-cell.ensures _ c.unwrap-first.ensures in
-    let r = c.reading-start.ensures.is in
+    let e = first_found m.bands _ _ _ _ c.bands.ensures.is t c.sum_cell.ensures _ c.unwrap-first.ensures in
+    let r = c.reading_start.ensures.is in
     ap Ok (to_z-of_z w64 c.in-ok-sum.sum f) ∙ sym c.in-ok-sum.was ∙ c.seen.ensures
     ∙ way-first m.bands c.args.size (look m) c.args.level c.args.index _ _ e (omega arith)
 
 pub lowered-requires : goal.lowered-requires
 lowered-requires g c =
     let m = g.S.Store.means c.args.store.now in
-    let r = c.reading-start.ensures.is in
+    let r = c.reading_start.ensures.is in
     let k = c.loop-below.auto.below in
     let t = c.loop-below-test.true in
     record {
@@ -44,8 +44,8 @@ lowered-requires g c =
 pub returns-in-err-sum-2 : goal.returns-in-err-sum-2
 returns-in-err-sum-2 g c =
     let m = g.S.Store.means c.args.store.now in
-    let p = err_from_is_err_and c.from-residual-in-err-sum-2.result c.from-residual-in-err-sum-2.ensures.1 in
-    let r = c.reading-start.ensures.is in
+    let p = err_from_is_err_and c.from_residual-in-err-sum-2.result c.from_residual-in-err-sum-2.ensures.1 in
+    let r = c.reading_start.ensures.is in
     let k = c.loop-below.auto.below in
     let e = way_down m.bands c.args.size (look m) c.args.level c.args.index c.loop-below.below _ c.loop-below-test.true (omega arith) c.loop-below.invariant in
     rw (p.1, p.2) (way-lost m.bands c.args.size (look m) c.args.level c.args.index (c.loop-below.below - 1) c.in-err-sum-2.field-0.0 (omega arith) (sym c.in-err-sum-2.was ∙ c.lowered.ensures ∙ e))
@@ -54,7 +54,7 @@ pub loop-below-preserved : goal.loop-below-preserved
 loop-below-preserved g c =
     let m = g.S.Store.means c.args.store.now in
     let f : SFits w64 c.in-ok-sum-2.sum = search rules in
-    let r = c.reading-start.ensures.is in
+    let r = c.reading_start.ensures.is in
     let k = c.loop-below.auto.below in
     let e = way_down m.bands c.args.size (look m) c.args.level c.args.index c.loop-below.below _ c.loop-below-test.true (omega arith) c.loop-below.invariant in
     ap Ok (to_z-of_z w64 c.in-ok-sum-2.sum f) ∙ sym c.in-ok-sum-2.was ∙ c.lowered.ensures ∙ e

@@ -5,6 +5,6 @@ pub returns : goal.returns
 returns c =
     holds_adds
     (holds_adds
-    (holds_adds c.start-text.ensures (adds_passed c.args.z c.ranges.z c.push-signed-field.ensures.adds))
-    c.push-field.ensures.adds)
+    (holds_adds c.start-text.ensures (adds_passed c.args.z c.ranges.z c.push_signed_field.ensures.adds))
+    c.push_field.ensures.adds)
     c.push.ensures

@@ -8,8 +8,8 @@ use Rattle.flat.proofs.Counting.{filled_less, zeros_most}
 use Rattle.flat.proofs.Placing.{recounted}
 use Rattle.flat.proofs.flat_store.FlatStore.write.Goals as goal
 
-pub zeros-after-zeros-requires : goal.zeros-after-zeros-requires
-zeros-after-zeros-requires c =
+pub zeros_after-zeros-requires : goal.zeros_after-zeros-requires
+zeros_after-zeros-requires c =
     let s = c.args.self.now in
     let i : c.args.cell < cell_count s.bands = search rules in
     let f : SFits w64 (number_at s.numbers.now c.args.cell) = search rules in
@@ -24,6 +24,6 @@ invariant-of-self c =
     let i : c.args.cell < cell_count s.bands = search rules in
     let f : SFits w64 (number_at s.numbers.now c.args.cell) = search rules in
     let l = length-set s.numbers.now c.args.cell (to_z w64 (of_z w64 c.args.value)) in
-    let e = c.zeros-after-zeros.ensures ∙ ap (λ z. s.zeros + weight z) (to_z-of_z w64 _ f) in
-    let n = recounted s.numbers.now c.args.cell (cell_count s.bands) _ i s.long s.zeros c.zeros-after-zeros.result e s.counted in
+    let e = c.zeros_after-zeros.ensures ∙ ap (λ z. s.zeros + weight z) (to_z-of_z w64 _ f) in
+    let n = recounted s.numbers.now c.args.cell (cell_count s.bands) _ i s.long s.zeros c.zeros_after-zeros.result e s.counted in
     (s.few, (omega (arith, s.long), (n, tt)))

@@ -1,7 +1,7 @@
 use Rattle.std.proofs.Common.{arith}
 use Rattle.holdback.proofs.Counted.{fresh_none, fresh-yes, fresh-no}
 use Rattle.holdback.proofs.held.HoldBack.count_fresh.Goals as goal
-use Rattle.holdback.proofs.held.HoldBack.count_fresh.Goals.{then-is-zero-below, else-is-zero-below}
+use Rattle.holdback.proofs.held.HoldBack.count_fresh.Goals.{then-is_zero_below, else-is_zero_below}
 
 pub loop-i-init : goal.loop-i-init
 loop-i-init g c = (omega arith, fresh_none _ _ _)
@@ -10,11 +10,11 @@ pub loop-i-preserved : goal.loop-i-preserved
 loop-i-preserved g c =
     let below = g.S.Store.means c.args.self.now.below in
     let held = c.args.self.now.held in
-    elim c.if-is-zero-below.branch [
-      | then-is-zero-below w ↦
-          let e = fresh-yes below held c.loop-i.i _ c.is-zero-below.ensures w.if-is-zero-below.true in
+    elim c.if-is_zero_below.branch [
+      | then-is_zero_below w ↦
+          let e = fresh-yes below held c.loop-i.i _ c.is_zero_below.ensures w.if-is_zero_below.true in
           (omega (arith, w.count-is), omega (arith, w.count-is))
-      | else-is-zero-below w ↦
-          let e = fresh-no below held c.loop-i.i _ c.is-zero-below.ensures w.if-is-zero-below.false in
+      | else-is_zero_below w ↦
+          let e = fresh-no below held c.loop-i.i _ c.is_zero_below.ensures w.if-is_zero_below.false in
           (omega (arith, w.count-is), omega (arith, w.count-is))
     ]

@@ -7,9 +7,9 @@ use Rattle.holdback.proofs.held.HoldBack.hold.Goals as goal
 pub invariant-of-self : goal.invariant-of-self
 invariant-of-self g c =
     let same = to_z-of_z w64 c.args.value c.ranges.value in
-    let t = tidy-more _ _ _ _ _ _ refl c.requires.gap.within c.shift-up.ensures (tidy c.args.self.now) c.requires.gap (λ e. c.requires.nonzero (sym same ∙ e)) in
+    let t = tidy-more _ _ _ _ _ _ refl c.requires.gap.within c.shift_up.ensures (tidy c.args.self.now) c.requires.gap (λ e. c.requires.nonzero (sym same ∙ e)) in
     search rules
 
 pub returns : goal.returns
 returns g c =
-    record { puts = hold_puts (g.S.Store.means c.args.self.now.below) _ _ _ _ _ _ (to_z-of_z w64 c.args.value c.ranges.value) c.requires.nonzero c.requires.inside (tidy c.args.self.now) c.requires.gap c.shift-up.ensures; below = refl }
+    record { puts = hold_puts (g.S.Store.means c.args.self.now.below) _ _ _ _ _ _ (to_z-of_z w64 c.args.value c.ranges.value) c.requires.nonzero c.requires.inside (tidy c.args.self.now) c.requires.gap c.shift_up.ensures; below = refl }

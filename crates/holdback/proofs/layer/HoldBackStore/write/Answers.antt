@@ -9,11 +9,11 @@ use Rattle.holdback.proofs.Calls.{writes_done, writes_held, writes_full}
 use Rattle.holdback.proofs.Going.{goes-nowhere, goes-held}
 use Rattle.holdback.proofs.layer.HoldBackStore.write.Goals as goal
 
-pub returns-then-not-has-room : goal.returns-then-not-has-room
-returns-then-not-has-room g c =
-    let zero = c.if-is-zero-below.ensures.yes refl in
+pub returns-then-not-has_room : goal.returns-then-not-has_room
+returns-then-not-has_room g c =
+    let zero = c.if-is_zero_below.ensures.yes refl in
     let some : c.args.value ≡ pos 0 → ⊥ = λ e. omega (arith, ints) in record {
-      writes = writes_full (g.S.Store.means c.args.self.now.below) _ _ _ _ zero.0 (gap_lacks _ _ _ _ c.in-Err.ensures) zero.1 some c.if-not-has-room.ensures;
+      writes = writes_full (g.S.Store.means c.args.self.now.below) _ _ _ _ zero.0 (gap_lacks _ _ _ _ c.in-Err.ensures) zero.1 some c.if-not-has_room.ensures;
       goes = λ _. goes-nowhere _ _ _ _;
     }
 
@@ -25,8 +25,8 @@ returns-in-Ok g c =
       goes = λ _. goes-held _ _ _ _ _ _ _ _ c.in-Ok.ensures c.change.ensures.below;
     }
 
-pub returns-then-is-full : goal.returns-then-is-full
-returns-then-is-full g c =
+pub returns-then-is_full : goal.returns-then-is_full
+returns-then-is_full g c =
     let f : SFits w64 c.args.value = c.ranges.value in
     let below = g.S.Store.means c.args.self.now.below in
     let inside : c.args.cell < cell_count below.bands = search rules in

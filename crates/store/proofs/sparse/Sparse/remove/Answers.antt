@@ -6,8 +6,8 @@ use Rattle.store.proofs.sparse.Sparse.remove.Goals as goal
 
 pub invariant-of-self : goal.invariant-of-self
 invariant-of-self c =
-    let s = sound-less _ _ _ _ _ _ (omega arith) (omega arith) (removed_inserted _ _ _ _ c.shift-down.ensures) _ (sound c.args.self.now) in
+    let s = sound-less _ _ _ _ _ _ (omega arith) (omega arith) (removed_inserted _ _ _ _ c.shift_down.ensures) _ (sound c.args.self.now) in
     search rules
 
 pub returns : goal.returns
-returns c = remove-puts _ _ _ _ _ _ _ (omega arith) (omega arith) c.args.self.now.spare (sound c.args.self.now) c.shift-down.ensures
+returns c = remove-puts _ _ _ _ _ _ _ (omega arith) (omega arith) c.args.self.now.spare (sound c.args.self.now) c.shift_down.ensures

@@ -8,10 +8,10 @@ use Rattle.warehouse.proofs.record.Warehouse.mean.Goals as goal
 pub returns-in-err-asking : goal.returns-in-err-asking
 unfolding mean_answer
 returns-in-err-asking g c =
-    let p = err_from_is_err_and c.from-residual.result c.from-residual.ensures.1 in
-    rw (p.1, p.2) (faulted c.mean-reading.result (Minutes c.args.from c.args.to) c.in-err-asking.field-0.0 (sym c.asking.ensures ∙ c.in-err-asking.was) ∙ ap (refused (Minutes c.args.from c.args.to)) c.mean-reading.ensures)
+    let p = err_from_is_err_and c.from_residual.result c.from_residual.ensures.1 in
+    rw (p.1, p.2) (faulted c.mean_reading.result (Minutes c.args.from c.args.to) c.in-err-asking.field-0.0 (sym c.asking.ensures ∙ c.in-err-asking.was) ∙ ap (refused (Minutes c.args.from c.args.to)) c.mean_reading.ensures)
 
 pub returns : goal.returns
 unfolding mean_answer
 returns g c =
-    answered c.mean-reading.result (Minutes c.args.from c.args.to) _ (sym c.asking.ensures ∙ c.in-ok-asking.was) ∙ ap (refused (Minutes c.args.from c.args.to)) c.mean-reading.ensures
+    answered c.mean_reading.result (Minutes c.args.from c.args.to) _ (sym c.asking.ensures ∙ c.in-ok-asking.was) ∙ ap (refused (Minutes c.args.from c.args.to)) c.mean_reading.ensures

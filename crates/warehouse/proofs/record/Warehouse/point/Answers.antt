@@ -8,10 +8,10 @@ use Rattle.warehouse.proofs.record.Warehouse.point.Goals as goal
 pub returns-in-err-asking : goal.returns-in-err-asking
 unfolding point_answer
 returns-in-err-asking g c =
-    let p = err_from_is_err_and c.from-residual.result c.from-residual.ensures.1 in
-    rw (p.1, p.2) (faulted c.point-reading.result (Minute c.args.minute) c.in-err-asking.field-0.0 (sym c.asking.ensures ∙ c.in-err-asking.was) ∙ ap (refused (Minute c.args.minute)) c.point-reading.ensures)
+    let p = err_from_is_err_and c.from_residual.result c.from_residual.ensures.1 in
+    rw (p.1, p.2) (faulted c.point_reading.result (Minute c.args.minute) c.in-err-asking.field-0.0 (sym c.asking.ensures ∙ c.in-err-asking.was) ∙ ap (refused (Minute c.args.minute)) c.point_reading.ensures)
 
 pub returns : goal.returns
 unfolding point_answer
 returns g c =
-    answered c.point-reading.result (Minute c.args.minute) _ (sym c.asking.ensures ∙ c.in-ok-asking.was) ∙ ap (refused (Minute c.args.minute)) c.point-reading.ensures
+    answered c.point_reading.result (Minute c.args.minute) _ (sym c.asking.ensures ∙ c.in-ok-asking.was) ∙ ap (refused (Minute c.args.minute)) c.point_reading.ensures

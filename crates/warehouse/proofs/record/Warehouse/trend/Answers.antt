@@ -9,10 +9,10 @@ use Rattle.warehouse.proofs.record.Warehouse.trend.Goals as goal
 pub returns-in-err-asking : goal.returns-in-err-asking
 unfolding trend_answer
 returns-in-err-asking g c =
-    let p = err_from_is_err_and c.from-residual.result c.from-residual.ensures.1 in
-    rw (p.1, p.2) (faulted c.trend-reading.result (Interval c.args.level c.args.index) c.in-err-asking.field-0.0 (sym c.asking.ensures ∙ c.in-err-asking.was) ∙ ap (refused (Interval c.args.level c.args.index)) c.trend-reading.ensures)
+    let p = err_from_is_err_and c.from_residual.result c.from_residual.ensures.1 in
+    rw (p.1, p.2) (faulted c.trend_reading.result (Interval c.args.level c.args.index) c.in-err-asking.field-0.0 (sym c.asking.ensures ∙ c.in-err-asking.was) ∙ ap (refused (Interval c.args.level c.args.index)) c.trend_reading.ensures)
 
 pub returns : goal.returns
 unfolding trend_answer
 returns g c =
-    answered c.trend-reading.result (Interval c.args.level c.args.index) _ (sym c.asking.ensures ∙ c.in-ok-asking.was) ∙ ap (refused (Interval c.args.level c.args.index)) c.trend-reading.ensures
+    answered c.trend_reading.result (Interval c.args.level c.args.index) _ (sym c.asking.ensures ∙ c.in-ok-asking.was) ∙ ap (refused (Interval c.args.level c.args.index)) c.trend_reading.ensures

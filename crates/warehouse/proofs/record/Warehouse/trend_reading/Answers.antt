@@ -4,8 +4,8 @@ use Rattle.warehouse.specs.Grading.{inside}
 use Rattle.warehouse.proofs.Descents.{tree-here}
 use Rattle.warehouse.proofs.record.Warehouse.trend_reading.Goals as goal
 
-pub trend-at-requires : goal.trend-at-requires
-trend-at-requires g c =
+pub trend_at-requires : goal.trend_at-requires
+trend_at-requires g c =
     let m = g.S.Store.means c.args.self.now.store in
     let t : inside c.size.result c.args.level c.args.index ≡ true = sym c.lies.ensures ∙ c.if-not-lies.false in
     let low : c.args.level ≤ c.size.result = grind (arith, nat_tests) in

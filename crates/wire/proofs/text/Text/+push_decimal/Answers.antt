@@ -5,8 +5,8 @@ use Rattle.wire.proofs.Texts.{length_decimal_step, adds_last_digit, adds_only_di
 use Rattle.wire.proofs.text.Text.+push_decimal.Goals as goal
 use Rattle.wire.proofs.text.Text.+push_decimal.Goals.{then-n-ge10, else-n-ge10}
 
-pub push-decimal-requires : goal.push-decimal-requires
-push-decimal-requires t c =
+pub push_decimal-requires : goal.push_decimal-requires
+push_decimal-requires t c =
     (omega arith, omega (arith, length_decimal_step c.args.n c.if-n-ge10.true c.ranges.n.fits))
 
 pub push-requires : goal.push-requires
@@ -16,7 +16,7 @@ push-requires t c =
           omega (
             arith,
             ap (λ (x : Text). x.len) w.self-is,
-            w.push-decimal.ensures.len,
+            w.push_decimal.ensures.len,
             length_decimal_step c.args.n w.if-n-ge10.true c.ranges.n.fits,
           )
       | else-n-ge10 w ↦ omega (arith, ap (λ (x : Text). x.len) w.self-is, decimal_nonempty c.args.n c.ranges.n.fits)
@@ -26,6 +26,6 @@ pub returns : goal.returns
 returns t c =
     elim c.if-n-ge10.branch [
       | then-n-ge10 w ↦
-          adds_last_digit c.args.n w.if-n-ge10.true c.ranges.n.fits (adds_to w.self-is w.push-decimal.ensures) c.push.ensures
+          adds_last_digit c.args.n w.if-n-ge10.true c.ranges.n.fits (adds_to w.self-is w.push_decimal.ensures) c.push.ensures
       | else-n-ge10 w ↦ adds_only_digit c.args.n w.if-n-ge10.false (adds_from w.self-is c.push.ensures)
     ]

@@ -11,8 +11,8 @@ use Rattle.wire.proofs.text.Text.push_signed_field.Goals.{then-z-lt0, else-z-lt0
 short : (m : ℕ) → m ≤ 2 ^ 63 → length (decimal m) ≤ 19
 short m h = length-decimal-le 19 m (omega arith) (omega arith) (omega arith)
 
-pub push-decimal-requires : goal.push-decimal-requires
-push-decimal-requires c =
+pub push_decimal-requires : goal.push_decimal-requires
+push_decimal-requires c =
     elim c.if-z-lt0.branch [
       | then-z-lt0 w ↦
           omega (
@@ -20,21 +20,21 @@ push-decimal-requires c =
             ap (λ (x : Text). x.len) w.self-is,
             w.push-then-z-lt0.ensures.len,
             c.push.ensures.len,
-            short c.unsigned-abs.result c.unsigned-abs.ensures.bound,
+            short c.unsigned_abs.result c.unsigned_abs.ensures.bound,
           )
       | else-z-lt0 w ↦
-          omega (arith, ap (λ (x : Text). x.len) w.self-is, c.push.ensures.len, short c.unsigned-abs.result c.unsigned-abs.ensures.bound)
+          omega (arith, ap (λ (x : Text). x.len) w.self-is, c.push.ensures.len, short c.unsigned_abs.result c.unsigned_abs.ensures.bound)
     ]
 
-added : (c : goal.After-push-decimal) → Adds c.args.self.now (signed_field c.args.z) c.push-decimal.new.self
+added : (c : goal.After-push_decimal) → Adds c.args.self.now (signed_field c.args.z) c.push_decimal.new.self
 added c =
     elim c.if-z-lt0.branch [
       | then-z-lt0 w ↦
-          adds_field c.args.z _ (signed_minus c.args.z c.unsigned-abs.result c.ranges.z w.if-z-lt0.true c.unsigned-abs.ensures.value)
-          (adds_adds c.push.ensures (adds_adds w.push-then-z-lt0.ensures (adds_from w.self-is c.push-decimal.ensures)))
+          adds_field c.args.z _ (signed_minus c.args.z c.unsigned_abs.result c.ranges.z w.if-z-lt0.true c.unsigned_abs.ensures.value)
+          (adds_adds c.push.ensures (adds_adds w.push-then-z-lt0.ensures (adds_from w.self-is c.push_decimal.ensures)))
       | else-z-lt0 w ↦
-          adds_field c.args.z _ (signed_plain c.args.z c.unsigned-abs.result c.ranges.z w.if-z-lt0.false c.unsigned-abs.ensures.value)
-          (adds_adds c.push.ensures (adds_from w.self-is c.push-decimal.ensures))
+          adds_field c.args.z _ (signed_plain c.args.z c.unsigned_abs.result c.ranges.z w.if-z-lt0.false c.unsigned_abs.ensures.value)
+          (adds_adds c.push.ensures (adds_from w.self-is c.push_decimal.ensures))
     ]
 
 pub returns : goal.returns

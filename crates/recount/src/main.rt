@@ -1,0 +1,105 @@
+// A feed played twice and counted by hand: into the pile that gymfeed uses, and, its loads split into points, into a flat
+// store. Every answer is compared with the plain minutes, and the two warehouses with one another.
+#![tactic(auto)]
+
+mod plain;
+mod tally;
+
+use compare::comparing::compare;
+use compare::comparison::Comparison;
+use feed::outcome::Outcome;
+use feed::run::{end, step};
+use feed::state::Loading;
+use flat::slice::Flat;
+use holdback::held::HoldBack;
+use std::io::Read;
+use store::interface::Store;
+use store::sparse::Sparse;
+use tally::Tally;
+use warehouse::record::Warehouse;
+use wire::command::Command;
+use wire::decode::decode;
+
+// The numbers of a flat store of 3 bands, and the minutes that it can hold.
+const CELLS: usize = 4368;
+
+const MINUTES: usize = 4096;
+
+// The whole feed, command by command.
+fn play<K: Store, F: Store>(
+    kept: &mut Warehouse<K>,
+    fresh: &mut Warehouse<F>,
+    minutes: &mut [i64],
+    buffer: &mut [i64],
+    bytes: &[u8],
+) -> Tally {
+    let mut tally = Tally::new();
+    let mut loading = Loading::Idle;
+    let mut at = 0;
+    while at < bytes.len() {
+        let command = match decode(&bytes[at..]) {
+            Ok((command, _)) => command,
+            Err(_) => Command::GiveUp,
+        };
+        let (next, outcome) = step(kept, loading, buffer, &bytes[at..], at as u64);
+        loading = next;
+        match outcome {
+            Outcome::On(line, width) => {
+                tally.note(fresh, minutes, buffer, command, line);
+                at = at.saturating_add(width.max(1));
+            }
+            Outcome::End(_) => at = bytes.len(),
+        }
+    }
+    let _ = end(loading);
+    tally
+}
+
+fn report(rt: &HostRuntime, tally: &Tally, found: Comparison) -> anyhow::Result<()> {
+    let commands = tally.commands;
+    let compared = tally.compared;
+    let different = tally.different;
+    let points = tally.points;
+    println!(rt; "{commands} commands were played into a hold-back layer over a sparse store")?;
+    println!(rt; "{compared} answers were compared with the plain minutes: {different} differ")?;
+    println!(rt;
+        "the accepted additions went into a flat store too, as {points} points, last minute first"
+    )?;
+    match found {
+        Comparison::Bands => println!(rt; "the two stores have not equally many bands")?,
+        Comparison::Differ(cell) => println!(rt; "the two warehouses differ first in cell {cell}")?,
+        Comparison::Alike => println!(rt; "the two warehouses share every cell")?,
+    }
+    Ok(())
+}
+
+// The feed in two warehouses of size 4, and what comparing them finds.
+fn recounted<K: Store + Drop, F: Store + Drop>(
+    kept: K,
+    fresh: F,
+    minutes: &mut [i64],
+    buffer: &mut [i64],
+    bytes: &[u8],
+) -> (Tally, Comparison) {
+    let mut kept = Warehouse::take_over(kept, 4);
+    let mut fresh = Warehouse::take_over(fresh, 4);
+    let tally = play(&mut kept, &mut fresh, minutes, buffer, bytes);
+    let found = compare(&kept, &fresh);
+    (tally, found)
+}
+
+fn run(rt: &HostRuntime) -> anyhow::Result<()> {
+    let mut bytes = Vec::new(rt.alloc());
+    rt.stdin().read_to_end(&mut bytes)?;
+    let mut numbers = vec![in rt.alloc(); 0i64; CELLS]?;
+    let mut minutes = vec![in rt.alloc(); 0i64; MINUTES]?;
+    let mut buffer = vec![in rt.alloc(); 0i64; MINUTES]?;
+    let kept = HoldBack::new(Sparse::new(3, 1024));
+    let fresh = Flat::new(&mut numbers);
+    let (tally, found) = recounted(kept, fresh, &mut minutes, &mut buffer, &bytes);
+    report(rt, &tally, found)
+}
+
+fn main(rt: HostRuntime) -> anyhow::Result<()> {
+    run(&rt)
+}

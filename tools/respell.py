@@ -2,9 +2,9 @@
 """Brings this repository's own definitions and lemmas to the kit's spelling: words in snake case, facts and types
 in upper camel case. Run once, at the top, right after the kit's port.py.
 
-A name is turned where it is declared at the left margin of a file of specs/ or proofs/, or as a field of a record
-there; pages take the facts alone. Names that the check makes (`goal.` at the declaration, fields of `c`, `l` and `w`) and names of the kit stay,
-and so do functions, strings, inputs and outputs. With --list the names are printed and nothing is written."""
+A name is turned where it is declared at the left margin of a file of specs/ or proofs/, in a module there, or as a
+field of a record; pages take the facts alone. Names that the check makes (`goal.` at the declaration, fields of `c`,
+`l` and `w`) and names of the kit stay, and so do functions, strings, inputs and outputs. With --list the names are printed and nothing is written."""
 import glob
 import re
 import sys
@@ -21,8 +21,16 @@ CHOSEN = {"D-suc": "D_suc", "haar-load": "haar_load"}
 
 
 def declared(path):
-    in_record = False
+    in_record = in_module = False
     for line in open(path):
+        if line.strip() and not line[0].isspace():
+            in_module = line.startswith("module _")
+        if in_module and line[:1].isspace():
+            inner = re.match(r"\s+(?:abbrev |pub )+(" + WORD + r")\s:(?:\s|$)", line)
+            inner = inner or re.match(r" {2,6}(" + WORD + r")\s:(?:\s|$)", line)
+            if inner and not re.search(r":\s*goal\.", line):
+                yield inner.group(1), bool(re.search(r"Type \d+\s*$", line))
+            continue
         at_margin = re.match(r"(?:abbrev |pub |unfoldable |opaque )*(record |data )(" + WORD + r")(?: .*)?\s:(?:\s|$)", line)
         at_margin = at_margin or re.match(r"(?:abbrev |pub |unfoldable |opaque )*()(" + WORD + r")\s:(?:\s|$)", line)
         if line.strip() and not line[0].isspace():

@@ -12,7 +12,7 @@ use Rattle.warehouse.specs.declared.fault.Fault.TheVariants.{Domain}
 use Rattle.warehouse.specs.Read.{look}
 use Rattle.warehouse.specs.View.{View}
 use Rattle.loads.specs.Share.{minutes}
-use Rattle.loads.proofs.Splits.{minutes-chunk}
+use Rattle.loads.proofs.Splits.{minutes_chunk}
 use Rattle.agreement.specs.Call.{Call, load, add, grow, settle, point, sum, mean, trend, Answer}
 use Rattle.agreement.specs.Share.{chunk_values}
 use Rattle.agreement.specs.Check.{fills, total_cell, chunk_checks, load_checks, refusal}
@@ -21,7 +21,7 @@ use Rattle.agreement.specs.Step.{Unchanged, Spent, Added, Changes, ChangesBy, St
 use Rattle.agreement.specs.History.{Tally}
 use Rattle.agreement.proofs.Checks.{Passed, passes, lies}
 use Rattle.agreement.proofs.Keeping.{Keeps}
-use Rattle.agreement.proofs.Shares.{of-loaded}
+use Rattle.agreement.proofs.Shares.{of_loaded}
 use Rattle.agreement.proofs.Steps.{unchanged}
 
 -- the view after the cells were written, with the room that is left
@@ -61,31 +61,31 @@ grown_cells T n all x =
         absurd (tile (ltb-true _ _ f.0, eqb-true _ _ f.1) (eqb-true _ _ u.1))
 
 module _ (founding : View) (t : Tally) (v : View) (k : Keeps founding t v) where
-  able-chunk : (m p : ℕ) (values : List ℤ) → Passed (chunk_checks v.size v.store.bands v.store.room (look v.store) m p values) → (w : View) × Added m p values v w
+  able_chunk : (m p : ℕ) (values : List ℤ) → Passed (chunk_checks v.size v.store.bands v.store.room (look v.store) m p values) → (w : View) × Added m p values v w
   unfolding after
-  able-chunk m p values e =
+  able_chunk m p values e =
       let low = (lies v.size m p Domain e.0).low in
-      let (y, l) = some_load v.store.bands v.size m p (minutes m p values) v.store.cells k.some k.fits low (minutes-chunk m p values) in
-      (after v v.size y, record { size = refl; bands = refl; cells = of-loaded v.store.bands v.size m p values v.store.cells y low l; room = left v v.size y })
+      let (y, l) = some_load v.store.bands v.size m p (minutes m p values) v.store.cells k.some k.fits low (minutes_chunk m p values) in
+      (after v v.size y, record { size = refl; bands = refl; cells = of_loaded v.store.bands v.size m p values v.store.cells y low l; room = left v v.size y })
 
-  able-changes : (call : Call) → refusal v call ≡ None → (w : View) × Changes v call w
+  able_changes : (call : Call) → refusal v call ≡ None → (w : View) × Changes v call w
   unfolding refusal after
-  able-changes (load m p taken buffer) e = able-chunk m p (chunk_values m buffer) (passes (load_checks v.size v.store.bands v.store.room (look v.store) m p taken buffer) e).1.1
-  able-changes (add i x) e = able-chunk 0 i (x ∷ []) (passes (chunk_checks v.size v.store.bands v.store.room (look v.store) 0 i (x ∷ [])) e)
-  able-changes grow e =
+  able_changes (load m p taken buffer) e = able_chunk m p (chunk_values m buffer) (passes (load_checks v.size v.store.bands v.store.room (look v.store) m p taken buffer) e).1.1
+  able_changes (add i x) e = able_chunk 0 i (x ∷ []) (passes (chunk_checks v.size v.store.bands v.store.room (look v.store) 0 i (x ∷ [])) e)
+  able_changes grow e =
       let all : ℤ = v.store.cells (total_cell v.store.bands v.size) in
       let y : ℕ → ℤ = λ c. cond (grown_test v.store.bands v.size c) all (v.store.cells c) in
       (after v (suc v.size) y, record { size = refl; bands = refl; cells = grown_cells v.store.bands v.size all v.store.cells; room = left v (suc v.size) y })
-  able-changes settle e =
+  able_changes settle e =
       (record { size = v.size; store = record { bands = v.store.bands; cells = v.store.cells; room = v.store.room; clean = true } }, record { size = refl; store = record { same = record { bands = refl; cells = λ _ _. refl; room = refl }; clean = λ _. refl } })
-  able-changes (point i) e = (v, unchanged v)
-  able-changes (sum a b) e = (v, unchanged v)
-  able-changes (mean a b) e = (v, unchanged v)
-  able-changes (trend j i) e = (v, unchanged v)
+  able_changes (point i) e = (v, unchanged v)
+  able_changes (sum a b) e = (v, unchanged v)
+  able_changes (mean a b) e = (v, unchanged v)
+  able_changes (trend j i) e = (v, unchanged v)
 
-  able-by : (o : Option Fault) (call : Call) → refusal v call ≡ o → (w : View) × ChangesBy o v call w
-  able-by None call e = able-changes call e
-  able-by (Some f) call e = (v, unchanged v)
+  able_by : (o : Option Fault) (call : Call) → refusal v call ≡ o → (w : View) × ChangesBy o v call w
+  able_by None call e = able_changes call e
+  able_by (Some f) call e = (v, unchanged v)
 
   pub able : (call : Call) → (a : Answer) × (w : View) × Step v call a w
-  able call = let (w, d) = able-by (refusal v call) call refl in (reply v call, w, record { answers = refl; changes = d })
+  able call = let (w, d) = able_by (refusal v call) call refl in (reply v call, w, record { answers = refl; changes = d })

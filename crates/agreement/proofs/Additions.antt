@@ -12,7 +12,7 @@ use Rattle.haar.specs.Haar.{value}
 use Rattle.haar.specs.Load.{Loaded}
 use Rattle.haar.specs.Count.{touched_coefficients}
 use Rattle.haar.proofs.Numbers.{inside_below}
-use Rattle.haar.proofs.Count.{coefficients-has, coefficients-mem, touches}
+use Rattle.haar.proofs.Count.{coefficients_has, coefficients_mem, touches}
 use Rattle.store.specs.Meaning.{Meaning, weight}
 use Rattle.store.specs.declared.fault.CellFault.TheVariants as cell
 use Rattle.warehouse.specs.declared.fault.Fault.{Fault}
@@ -108,10 +108,10 @@ module _ (v : View) (m p : ℕ) (zs : List ℤ) (fits : v.size ≤ 4 * v.store.b
   number_is s me = ap₂ (λ o y. held o +ℤ y) (sees s me) (shares m p zs n there.low s me.inside me.touched)
 
   listed : (s : Coefficient) → Meets n m p s → Memᴰ (writing s) ws
-  listed s me = Memᴰ.map writing (coefficients-has T n m p some fits there.low there.inside s me.inside me.touched)
+  listed s me = Memᴰ.map writing (coefficients_has T n m p some fits there.low there.inside s me.inside me.touched)
 
   meets : (s : Coefficient) → Memᴰ s (touched_coefficients n m p) → Meets n m p s
-  meets s h = let u = coefficients-mem T n m p some fits there.low there.inside s h in record { inside = u.0; touched = u.1 }
+  meets s h = let u = coefficients_mem T n m p some fits there.low there.inside s h in record { inside = u.0; touched = u.1 }
 
   bars : (s : Coefficient) → Meets n m p s → barred (L (cell_number T s)) (held (L (cell_number T s)) +ℤ share m p zs s) ≡ ltb limit (nat_abs (x (cell_number T s) +ℤ value n (minutes m p zs) s))
   bars s me = ap₂ barred (sees s me) (number_is s me)
@@ -123,8 +123,8 @@ module _ (v : View) (m p : ℕ) (zs : List ℤ) (fits : v.size ≤ 4 * v.store.b
   caught s me big = bars s me ∙ lt-ltb _ _ (⊎_elim (λ lt. lt) (λ (le : nat_abs (x (cell_number T s) +ℤ value n (minutes m p zs) s) ≤ limit). absurd (big (small_abs _ le))) (cases_lt limit (nat_abs (x (cell_number T s) +ℤ value n (minutes m p zs) s))))
 
   -- a barred write is of a coefficient whose new number is not small
-  not-small : (c : ℕ) (z : ℤ) → Memᴰ (put c z) ws → barred (L c) z ≡ true → (s : Coefficient) × Meets n m p s × (cell_number T s ≡ c) × (Small (x (cell_number T s) +ℤ value n (minutes m p zs) s) → ⊥)
-  not-small c z h b =
+  not_small : (c : ℕ) (z : ℤ) → Memᴰ (put c z) ws → barred (L c) z ≡ true → (s : Coefficient) × Meets n m p s × (cell_number T s ≡ c) × (Small (x (cell_number T s) +ℤ value n (minutes m p zs) s) → ⊥)
+  not_small c z h b =
       let (s, i, e) = Memᴰ.of_map writing (touched_coefficients n m p) h in
       let q : cell_number T s ≡ c = cc in
       let r : held (L (cell_number T s)) +ℤ share m p zs s ≡ z = cc in
@@ -136,68 +136,68 @@ module _ (v : View) (m p : ℕ) (zs : List ℤ) (fits : v.size ≤ 4 * v.store.b
     where
       go : (o : Option ℕ) → LowestBarred L ws o → o ≡ None
       go None u = refl
-      go (Some d) u = let (s, me, q, big) = not-small d u.0.0 u.0.1 u.0.2 in absurd (big (clear s me (below s me)))
+      go (Some d) u = let (s, me, q, big) = not_small d u.0.0 u.0.1 u.0.2 in absurd (big (clear s me (below s me)))
 
-  large-some : (c : ℕ) → loads.Large T n m p (minutes m p zs) x c → lowest_barred L ws ≡ Some c
-  large-some c large = go (lowest_barred L ws) (barred_is L ws)
+  large_some : (c : ℕ) → loads.Large T n m p (minutes m p zs) x c → lowest_barred L ws ≡ Some c
+  large_some c large = go (lowest_barred L ws) (barred_is L ws)
     where
       over : Small (x (cell_number T large.coefficient) +ℤ value n (minutes m p zs) large.coefficient) → ⊥
       over = subst (λ c. Small (x c +ℤ value n (minutes m p zs) large.coefficient) → ⊥) (sym large.numbered) large.over
 
-      barred-there : barred (L (cell_number T large.coefficient)) (held (L (cell_number T large.coefficient)) +ℤ share m p zs large.coefficient) ≡ true
-      barred-there = caught large.coefficient large.meets over
+      barred_there : barred (L (cell_number T large.coefficient)) (held (L (cell_number T large.coefficient)) +ℤ share m p zs large.coefficient) ≡ true
+      barred_there = caught large.coefficient large.meets over
 
       go : (o : Option ℕ) → LowestBarred L ws o → o ≡ Some c
-      go None u = absurd (both_ways _ (u _ _ (listed large.coefficient large.meets)) barred-there)
+      go None u = absurd (both_ways _ (u _ _ (listed large.coefficient large.meets)) barred_there)
       go (Some d) u =
-          let (s, me, q, big) = not-small d u.0.0 u.0.1 u.0.2 in
-          let a : d ≤ cell_number T large.coefficient = u.1 _ _ (listed large.coefficient large.meets) barred-there in
+          let (s, me, q, big) = not_small d u.0.0 u.0.1 u.0.2 in
+          let a : d ≤ cell_number T large.coefficient = u.1 _ _ (listed large.coefficient large.meets) barred_there in
           let b : c ≤ d = ⊎_elim (λ (lt : d < c). absurd (big (large.lowest s me (omega arith)))) (λ le. le) (cases_lt d c) in
           let e : d ≡ c = omega (arith, large.numbered) in
           ap Some e
 
   -- the cells that go from zero to nonzero
-  newly-along : (y : ℕ → ℤ) → Loaded T n m p (minutes m p zs) x y → (ss : List Coefficient) → ((s : Coefficient) → Memᴰ s ss → Meets n m p s) → newly L (map writing ss) ≡ along x y (map (cell_number T) ss)
-  newly-along y l [] all = refl
-  newly-along y l (s ∷ ss) all =
+  newly_along : (y : ℕ → ℤ) → Loaded T n m p (minutes m p zs) x y → (ss : List Coefficient) → ((s : Coefficient) → Memᴰ s ss → Meets n m p s) → newly L (map writing ss) ≡ along x y (map (cell_number T) ss)
+  newly_along y l [] all = refl
+  newly_along y l (s ∷ ss) all =
       let me = all s (Memᴰ.head refl) in
       let a : held (L (cell_number T s)) +ℤ share m p zs s ≡ y (cell_number T s) = number_is s me ∙ sym (l.added s me.inside me.touched) in
-      ap₂ ◌+◌ (ap₂ (λ z o. weight z - weight (held o)) a (sees s me)) (newly-along y l ss (λ s h. all s (Memᴰ.tail h)))
+      ap₂ ◌+◌ (ap₂ (λ z o. weight z - weight (held o)) a (sees s me)) (newly_along y l ss (λ s h. all s (Memᴰ.tail h)))
 
-  newly-fresh : (y : ℕ → ℤ) → Loaded T n m p (minutes m p zs) x y → newly L ws ≡ fresh x y (cell_count T)
-  newly-fresh y l =
+  newly_fresh : (y : ℕ → ℤ) → Loaded T n m p (minutes m p zs) x y → newly L ws ≡ fresh x y (cell_count T)
+  newly_fresh y l =
       let t = touches T n m p some fits there.low there.inside in
-      newly-along y l (touched_coefficients n m p) meets
+      newly_along y l (touched_coefficients n m p) meets
       ∙ all_along x y (cell_count T) (map (cell_number T) (touched_coefficients n m p)) t.apart
       (λ c h. let (s, i, u, e) = t.touched c h in subst (λ c. c < cell_count T) e (inside_below T n s some fits i))
       (λ c h out. l.kept c h (λ s i u e. out (subst (λ c. Memᴰ c (map (cell_number T) (touched_coefficients n m p))) e (t.complete s i u))))
 
   -- the checks of the cells
-  abbrev cell-checks : List (Option Fault)
-  cell-checks = at (λ c. bar (L c) c) (lowest_barred L ws) ∷ check (lt_z v.store.room (pos (newly L ws))) Full ∷ []
+  abbrev cell_checks : List (Option Fault)
+  cell_checks = at (λ c. bar (L c) c) (lowest_barred L ws) ∷ check (lt_z v.store.room (pos (newly L ws))) Full ∷ []
 
-  large-found : (c : ℕ) → loads.Large T n m p (minutes m p zs) x c → first cell-checks ≡ Some (Large c)
-  large-found c large =
+  large_found : (c : ℕ) → loads.Large T n m p (minutes m p zs) x c → first cell_checks ≡ Some (Large c)
+  large_found c large =
       let b : c < cell_count T = subst (λ c. c < cell_count T) large.numbered (below large.coefficient large.meets) in
-      hit _ _ (Large c) (ap (at (λ c. bar (L c) c)) (large-some c large) ∙ ap (λ o. Some (bar o c)) (look_below v.store c b))
+      hit _ _ (Large c) (ap (at (λ c. bar (L c) c)) (large_some c large) ∙ ap (λ o. Some (bar o c)) (look_below v.store c b))
 
-  full-found : Clear T n m p (minutes m p zs) x (cell_count T) → (y : ℕ → ℤ) → Loaded T n m p (minutes m p zs) x y → v.store.room <ℤ pos (fresh x y (cell_count T)) → first cell-checks ≡ Some Full
-  full-found clear y l over =
+  full_found : Clear T n m p (minutes m p zs) x (cell_count T) → (y : ℕ → ℤ) → Loaded T n m p (minutes m p zs) x y → v.store.room <ℤ pos (fresh x y (cell_count T)) → first cell_checks ≡ Some Full
+  full_found clear y l over =
       next _ _ (Some Full) (ap (at (λ c. bar (L c) c)) (clear_none clear))
       (hit _ _ Full (ap (λ b. check b Full) (crowded (lt_z v.store.room (pos (newly L ws))) refl)))
     where
       crowded : (b : Bool) → lt_z v.store.room (pos (newly L ws)) ≡ b → lt_z v.store.room (pos (newly L ws)) ≡ true
       crowded true e = e
-      crowded false e = absurd (omega (arith, ints, newly-fresh y l))
+      crowded false e = absurd (omega (arith, ints, newly_fresh y l))
 
-  none_found : Clear T n m p (minutes m p zs) x (cell_count T) → (y : ℕ → ℤ) → Loaded T n m p (minutes m p zs) x y → pos (fresh x y (cell_count T)) ≤ℤ v.store.room → first cell-checks ≡ None
+  none_found : Clear T n m p (minutes m p zs) x (cell_count T) → (y : ℕ → ℤ) → Loaded T n m p (minutes m p zs) x y → pos (fresh x y (cell_count T)) ≤ℤ v.store.room → first cell_checks ≡ None
   none_found clear y l enough =
       next _ _ None (ap (at (λ c. bar (L c) c)) (clear_none clear))
       (next _ _ None (ap (λ b. check b Full) (roomy (lt_z v.store.room (pos (newly L ws))) refl)) refl)
     where
       roomy : (b : Bool) → lt_z v.store.room (pos (newly L ws)) ≡ b → lt_z v.store.room (pos (newly L ws)) ≡ false
       roomy false e = e
-      roomy true e = absurd (omega (arith, ints, newly-fresh y l))
+      roomy true e = absurd (omega (arith, ints, newly_fresh y l))
 
 -- a store without bands
 module _ (s : Meaning) (zs : List ℤ) where
@@ -208,69 +208,69 @@ module _ (s : Meaning) (zs : List ℤ) where
   unfolding tiles_before
   no_cell e = let z = ap cell_count e in cond-false (ltb 0 (cell_count s.bands)) (Ok (s.cells 0)) (Err (Cell (cell.Cell 0))) (le-ltb _ _ (omega arith))
 
-  found-zero : s.bands ≡ 0 → found 0 0 0 0 ≡ Some (Cell (cell.Cell 0))
+  found_zero : s.bands ≡ 0 → found 0 0 0 0 ≡ Some (Cell (cell.Cell 0))
   unfolding touched_coefficients
-  found-zero e =
+  found_zero e =
       ap (λ o. at (λ c. bar (look s c) c) (cond (barred o (held o +ℤ share 0 0 zs (TileSum 0 0))) (Some 0) None)) (no_cell e)
       ∙ ap (λ o. Some (bar o 0)) (no_cell e)
 
   found_none : (n m p : ℕ) → s.bands ≡ 0 → n ≡ 0 → m ≡ 0 → p ≡ 0 → found s.bands n m p ≡ Some (Cell (cell.Cell 0))
-  found_none n m p e a b c = (λ t. found (e t) (a t) (b t) (c t)) ∙ found-zero e
+  found_none n m p e a b c = (λ t. found (e t) (a t) (b t) (c t)) ∙ found_zero e
 
 module _ (v : View) (m p : ℕ) (zs : List ℤ) (fits : v.size ≤ 4 * v.store.bands) where
-  abbrev all-checks : List (Option Fault)
-  all-checks = chunk_checks v.size v.store.bands v.store.room (look v.store) m p zs
+  abbrev all_checks : List (Option Fault)
+  all_checks = chunk_checks v.size v.store.bands v.store.room (look v.store) m p zs
 
-  abbrev out-of-limits : ℕ → Bool
-  out-of-limits i = wide (get_or zs i (pos 0))
+  abbrev out_of_limits : ℕ → Bool
+  out_of_limits i = wide (get_or zs i (pos 0))
 
-  domain-passed : Lies v.size m p → check (not (inside v.size m p)) Domain ≡ None
-  domain-passed l = ap (λ b. check b Domain) (not_from_true _ (inside_lies v.size m p l))
+  domain_passed : Lies v.size m p → check (not (inside v.size m p)) Domain ≡ None
+  domain_passed l = ap (λ b. check b Domain) (not_from_true _ (inside_lies v.size m p l))
 
-  values-passed : Limited (2 ^ m) zs → at Value (lowest out-of-limits (2 ^ m)) ≡ None
-  values-passed l = ap (at Value) (lowest_no out-of-limits (2 ^ m) (λ i h. limited (get_or zs i (pos 0)) (l i h)))
+  values_passed : Limited (2 ^ m) zs → at Value (lowest out_of_limits (2 ^ m)) ≡ None
+  values_passed l = ap (at Value) (lowest_no out_of_limits (2 ^ m) (λ i h. limited (get_or zs i (pos 0)) (l i h)))
 
-  abbrev last-checks : List (Option Fault)
-  last-checks =
+  abbrev last_checks : List (Option Fault)
+  last_checks =
       at (λ c. bar (look v.store c) c) (lowest_barred (look v.store) (load_writes v.store.bands v.size (look v.store) m p zs))
       ∷ check (lt_z v.store.room (pos (newly (look v.store) (load_writes v.store.bands v.size (look v.store) m p zs)))) Full
       ∷ []
 
   -- past the checks before those of the cells
-  cells-next : (r : Option Fault) → Lies v.size m p → Limited (2 ^ m) zs → first last-checks ≡ r → first all-checks ≡ r
-  cells-next r l k e = next _ _ r (domain-passed l) (next _ _ r (values-passed k) e)
+  cells_next : (r : Option Fault) → Lies v.size m p → Limited (2 ^ m) zs → first last_checks ≡ r → first all_checks ≡ r
+  cells_next r l k e = next _ _ r (domain_passed l) (next _ _ r (values_passed k) e)
 
-  pub chunk-refused : (f : Fault) → Refuses v m p zs f → first all-checks ≡ Some f
-  chunk-refused Domain out =
+  pub chunk_refused : (f : Fault) → Refuses v m p zs f → first all_checks ≡ Some f
+  chunk_refused Domain out =
       hit _ _ Domain (ap (λ b. check b Domain) (not_from_false _ (⊎_elim (λ (e : inside v.size m p ≡ true). absurd (out (lies_inside v.size m p e))) (λ e. e) (cases_Bool (inside v.size m p)))))
-  chunk-refused (Value i) (l, h, out, k) =
-      next _ _ (Some (Value i)) (domain-passed l)
-      (hit _ _ (Value i) (ap (at Value) (lowest_some out-of-limits (2 ^ m) i h (unlimited (get_or zs i (pos 0)) out) (λ k l. limited (get_or zs k (pos 0)) (within-below k l)))))
+  chunk_refused (Value i) (l, h, out, k) =
+      next _ _ (Some (Value i)) (domain_passed l)
+      (hit _ _ (Value i) (ap (at Value) (lowest_some out_of_limits (2 ^ m) i h (unlimited (get_or zs i (pos 0)) out) (λ k l. limited (get_or zs k (pos 0)) (within_below k l)))))
     where
-      within-below : (j : ℕ) → j < i → Limit (get_or zs j (pos 0))
-      within-below = k
-  chunk-refused (Cell f) (s, none, e) =
+      within_below : (j : ℕ) → j < i → Limit (get_or zs j (pos 0))
+      within_below = k
+  chunk_refused (Cell f) (s, none, e) =
       let z : v.size ≡ 0 = omega (arith, none) in
       let a : m ≡ 0 = omega (arith, s.lies.low) in
       let q : v.size - m ≡ 0 = omega arith in
       let r = ap (λ e. 2 ^ e) q in
       let b : p ≡ 0 = omega (arith, s.lies.inside) in
-      cells-next (Some (Cell f)) s.lies s.limited (hit _ _ (Cell f) (found_none v.store zs v.size m p none z a b ∙ ap (λ f. Some (Cell f)) (sym e)))
-  chunk-refused (Large c) (s, some, large) = cells-next (Some (Large c)) s.lies s.limited (large-found v m p zs fits some s.lies c large)
-  chunk-refused Full (s, some, crowded) = cells-next (Some Full) s.lies s.limited (full-found v m p zs fits some s.lies crowded.small crowded.after crowded.load crowded.over)
-  chunk-refused Level r = absurd r
-  chunk-refused Buffer r = absurd r
-  chunk-refused Range r = absurd r
-  chunk-refused Interval r = absurd r
-  chunk-refused Size r = absurd r
-  chunk-refused Top r = absurd r
-  chunk-refused Short r = absurd r
-  chunk-refused Over r = absurd r
-  chunk-refused (Torn c) r = absurd r
-  chunk-refused (Dirty c) r = absurd r
-  chunk-refused (Fine c) r = absurd r
+      cells_next (Some (Cell f)) s.lies s.limited (hit _ _ (Cell f) (found_none v.store zs v.size m p none z a b ∙ ap (λ f. Some (Cell f)) (sym e)))
+  chunk_refused (Large c) (s, some, large) = cells_next (Some (Large c)) s.lies s.limited (large_found v m p zs fits some s.lies c large)
+  chunk_refused Full (s, some, crowded) = cells_next (Some Full) s.lies s.limited (full_found v m p zs fits some s.lies crowded.small crowded.after crowded.load crowded.over)
+  chunk_refused Level r = absurd r
+  chunk_refused Buffer r = absurd r
+  chunk_refused Range r = absurd r
+  chunk_refused Interval r = absurd r
+  chunk_refused Size r = absurd r
+  chunk_refused Top r = absurd r
+  chunk_refused Short r = absurd r
+  chunk_refused Over r = absurd r
+  chunk_refused (Torn c) r = absurd r
+  chunk_refused (Dirty c) r = absurd r
+  chunk_refused (Fine c) r = absurd r
 
-  pub chunk-accepted : (w : ℕ) (v' : View) → Accepts v m p zs w v' → first all-checks ≡ None
-  chunk-accepted w v' a =
-      cells-next None a.sound.lies a.sound.limited
+  pub chunk_accepted : (w : ℕ) (v' : View) → Accepts v m p zs w v' → first all_checks ≡ None
+  chunk_accepted w v' a =
+      cells_next None a.sound.lies a.sound.limited
       (none_found v m p zs fits a.some a.sound.lies a.took.small v'.store.cells a.took.stored.loaded (a.took.fitted v'.store.cells a.took.stored.loaded))

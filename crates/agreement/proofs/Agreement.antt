@@ -51,34 +51,34 @@ module _ (v w : View) (size : v.size ≡ w.size) (bands : v.store.bands ≡ w.st
   unfolding sum_answer
   same_sum a b t = ask.refused (asked.Minutes a b) (cond (ltb b a) (Err Range) (cond (ltb (2 ^ size t) b) (Err Domain) (range_reading (bands t) (size t) (sight t) a b)))
 
-  same-mean : (a b : ℕ) → mean_answer v a b ≡ mean_answer w a b
+  same_mean : (a b : ℕ) → mean_answer v a b ≡ mean_answer w a b
   unfolding mean_answer
-  same-mean a b t = ask.refused (asked.Minutes a b) (cond (leb b a) (Err Range) (◌then◌ (cond (ltb b a) (Err Range) (cond (ltb (2 ^ size t) b) (Err Domain) (range_reading (bands t) (size t) (sight t) a b))) (averaged (b - a))))
+  same_mean a b t = ask.refused (asked.Minutes a b) (cond (leb b a) (Err Range) (◌then◌ (cond (ltb b a) (Err Range) (cond (ltb (2 ^ size t) b) (Err Domain) (range_reading (bands t) (size t) (sight t) a b))) (averaged (b - a))))
 
-  same-trend : (j k : ℕ) → trend_answer v j k ≡ trend_answer w j k
+  same_trend : (j k : ℕ) → trend_answer v j k ≡ trend_answer w j k
   unfolding trend_answer
-  same-trend j k t = ask.refused (asked.Interval j k) (cond (eqb j 0 || ltb 20 j) (Err Interval) (cond (inside (size t) j k) (◌then◌ (sight t (cell_number (bands t) (Difference j k))) (graded j (cell_number (bands t) (Difference j k)))) (Err Domain)))
+  same_trend j k t = ask.refused (asked.Interval j k) (cond (eqb j 0 || ltb 20 j) (Err Interval) (cond (inside (size t) j k) (◌then◌ (sight t (cell_number (bands t) (Difference j k))) (graded j (cell_number (bands t) (Difference j k)))) (Err Domain)))
 
-  same-refusal : (call : Call) → refusal v call ≡ refusal w call
+  same_refusal : (call : Call) → refusal v call ≡ refusal w call
   unfolding refusal
-  same-refusal (load m p taken buffer) = λ t. first (load_checks (size t) (bands t) (room t) (sight t) m p taken buffer)
-  same-refusal (add i x) = λ t. first (chunk_checks (size t) (bands t) (room t) (sight t) 0 i (x ∷ []))
-  same-refusal grow = λ t. first (growth_checks (size t) (bands t) (room t) (sight t))
-  same-refusal settle = refl
-  same-refusal (point i) = ap fault_in (same_point i)
-  same-refusal (sum a b) = ap fault_in (same_sum a b)
-  same-refusal (mean a b) = ap fault_in (same-mean a b)
-  same-refusal (trend j k) = ap fault_in (same-trend j k)
+  same_refusal (load m p taken buffer) = λ t. first (load_checks (size t) (bands t) (room t) (sight t) m p taken buffer)
+  same_refusal (add i x) = λ t. first (chunk_checks (size t) (bands t) (room t) (sight t) 0 i (x ∷ []))
+  same_refusal grow = λ t. first (growth_checks (size t) (bands t) (room t) (sight t))
+  same_refusal settle = refl
+  same_refusal (point i) = ap fault_in (same_point i)
+  same_refusal (sum a b) = ap fault_in (same_sum a b)
+  same_refusal (mean a b) = ap fault_in (same_mean a b)
+  same_refusal (trend j k) = ap fault_in (same_trend j k)
 
-  same-reply : (call : Call) → reply v call ≡ reply w call
-  same-reply (load m p taken buffer) = λ t. or_refused (same-refusal (load m p taken buffer) t) (repeats (size t) (load m p taken buffer)) (wrote (W m (size t)))
-  same-reply (add i x) = λ t. or_refused (same-refusal (add i x) t) (repeats (size t) (add i x)) (wrote (W 0 (size t)))
-  same-reply grow = λ t. or_refused (same-refusal grow t) (repeats (size t) grow) (grown (suc (size t)))
-  same-reply settle = refl
-  same-reply (point i) = ap reading_reply (same_point i)
-  same-reply (sum a b) = ap reading_reply (same_sum a b)
-  same-reply (mean a b) = ap reading_reply (same-mean a b)
-  same-reply (trend j k) = ap trend_reply (same-trend j k)
+  same_reply : (call : Call) → reply v call ≡ reply w call
+  same_reply (load m p taken buffer) = λ t. or_refused (same_refusal (load m p taken buffer) t) (repeats (size t) (load m p taken buffer)) (wrote (W m (size t)))
+  same_reply (add i x) = λ t. or_refused (same_refusal (add i x) t) (repeats (size t) (add i x)) (wrote (W 0 (size t)))
+  same_reply grow = λ t. or_refused (same_refusal grow t) (repeats (size t) grow) (grown (suc (size t)))
+  same_reply settle = refl
+  same_reply (point i) = ap reading_reply (same_point i)
+  same_reply (sum a b) = ap reading_reply (same_sum a b)
+  same_reply (mean a b) = ap reading_reply (same_mean a b)
+  same_reply (trend j k) = ap trend_reply (same_trend j k)
 
 module _ (founding : View) (t : Tally) (v : View) (k : Keeps founding t v) where
   pub recounted : (c : ℕ) → c < cell_count v.store.bands → v.store.cells c ≡ haar_cells founding.store.bands t.size t.minutes c
@@ -88,8 +88,8 @@ module _ (founding : View) (t : Tally) (v : View) (k : Keeps founding t v) where
       (subst (λ n. HaarCells founding.store.bands n t.minutes (haar_cells founding.store.bands t.size t.minutes)) (sym k.size)
       (cells_are founding.store.bands t.size t.minutes (omega (arith, k.some, k.bands)) (omega (arith, k.fits, k.bands, k.size)))))
 
-  same-room : v.store.room ≡ (recount founding t).store.room
-  same-room =
+  same_room : v.store.room ≡ (recount founding t).store.room
+  same_room =
       let e : filled v.store.cells (cell_count v.store.bands) ≡ filled (haar_cells founding.store.bands t.size t.minutes) (cell_count founding.store.bands) =
       filled_same (haar_cells founding.store.bands t.size t.minutes) v.store.cells (cell_count v.store.bands) recounted
       ∙ ap (λ T. filled (haar_cells founding.store.bands t.size t.minutes) (cell_count T)) k.bands in
@@ -99,11 +99,11 @@ module _ (founding : View) (t : Tally) (v : View) (k : Keeps founding t v) where
   seen = same_look v.store (recount founding t).store k.bands recounted
 
   -- the checks find on the view what they find on the recount, and the definitions answer alike on both
-  recount-refusal : (call : Call) → refusal v call ≡ refusal (recount founding t) call
-  recount-refusal = same-refusal v (recount founding t) k.size k.bands same-room seen
+  recount_refusal : (call : Call) → refusal v call ≡ refusal (recount founding t) call
+  recount_refusal = same_refusal v (recount founding t) k.size k.bands same_room seen
 
-  recount-reply : (call : Call) → reply v call ≡ reply (recount founding t) call
-  recount-reply = same-reply v (recount founding t) k.size k.bands same-room seen
+  recount_reply : (call : Call) → reply v call ≡ reply (recount founding t) call
+  recount_reply = same_reply v (recount founding t) k.size k.bands same_room seen
 
   confined : (m p written : ℕ) (values : List ℤ) (w : View) → Passed (chunk_checks v.size v.store.bands v.store.room (look v.store) m p values) → wrote written ≡ wrote (W m v.size) → Added m p values v w → Confined m p written v w
   confined m p written values w e q d =
@@ -116,31 +116,31 @@ module _ (founding : View) (t : Tally) (v : View) (k : Keeps founding t v) where
         others = λ c b none. d.cells.others c b (λ s i h e. none (subst (λ c. Memᴰ c (map (cell_number v.store.bands) (touched_coefficients v.size m p))) e (t.complete s i h)));
       }
 
-  load-confined : (m p taken written : ℕ) (buffer : List ℤ) (w : View) (o : Option Fault) → refusal v (load m p taken buffer) ≡ o → wrote written ≡ or_refused o (asked.Interval m p) (wrote (W m v.size)) → ChangesBy o v (load m p taken buffer) w → Confined m p written v w
+  load_confined : (m p taken written : ℕ) (buffer : List ℤ) (w : View) (o : Option Fault) → refusal v (load m p taken buffer) ≡ o → wrote written ≡ or_refused o (asked.Interval m p) (wrote (W m v.size)) → ChangesBy o v (load m p taken buffer) w → Confined m p written v w
   unfolding refusal
-  load-confined m p taken written buffer w None e q s = confined m p written (chunk_values m buffer) w (passes (load_checks v.size v.store.bands v.store.room (look v.store) m p taken buffer) e).1.1 q s
-  load-confined m p taken written buffer w (Some f) e q s = let z : ◌≡◌ {A = ℕ} 0 1 = cc in absurd (omega arith)
+  load_confined m p taken written buffer w None e q s = confined m p written (chunk_values m buffer) w (passes (load_checks v.size v.store.bands v.store.room (look v.store) m p taken buffer) e).1.1 q s
+  load_confined m p taken written buffer w (Some f) e q s = let z : ◌≡◌ {A = ℕ} 0 1 = cc in absurd (omega arith)
 
-  add-confined : (i written : ℕ) (x : ℤ) (w : View) (o : Option Fault) → refusal v (add i x) ≡ o → wrote written ≡ or_refused o (asked.Minute i) (wrote (W 0 v.size)) → ChangesBy o v (add i x) w → Confined 0 i written v w
+  add_confined : (i written : ℕ) (x : ℤ) (w : View) (o : Option Fault) → refusal v (add i x) ≡ o → wrote written ≡ or_refused o (asked.Minute i) (wrote (W 0 v.size)) → ChangesBy o v (add i x) w → Confined 0 i written v w
   unfolding refusal
-  add-confined i written x w None e q s = confined 0 i written (x ∷ []) w (passes (chunk_checks v.size v.store.bands v.store.room (look v.store) 0 i (x ∷ [])) e) q s
-  add-confined i written x w (Some f) e q s = let z : ◌≡◌ {A = ℕ} 0 1 = cc in absurd (omega arith)
+  add_confined i written x w None e q s = confined 0 i written (x ∷ []) w (passes (chunk_checks v.size v.store.bands v.store.room (look v.store) 0 i (x ∷ [])) e) q s
+  add_confined i written x w (Some f) e q s = let z : ◌≡◌ {A = ℕ} 0 1 = cc in absurd (omega arith)
 
   holds : Holds v t.minutes
   holds = record { some = k.some; fits = k.fits; haar = k.cells; small = k.small }
 
-  point-answered : (i : ℕ) → i < 2 ^ v.size → (a : Answer) (w : View) → Step v (point i) a w → a ≡ gave (t.minutes i) (cells_read v.size 0)
-  point-answered i h a w s = s.answers ∙ ap reading_reply ((reads_back v t.minutes holds).0 i h)
+  point_answered : (i : ℕ) → i < 2 ^ v.size → (a : Answer) (w : View) → Step v (point i) a w → a ≡ gave (t.minutes i) (cells_read v.size 0)
+  point_answered i h a w s = s.answers ∙ ap reading_reply ((reads_back v t.minutes holds).0 i h)
 
-  sum-answered : (b e : ℕ) → b ≤ e → e ≤ 2 ^ v.size → (a : Answer) (w : View) → Step v (sum b e) a w → a ≡ gave (plain_sum t.minutes b (e - b)) (range_cells v.size b e)
-  sum-answered b e l h a w s = s.answers ∙ ap reading_reply ((reads_back v t.minutes holds).1 b e l h)
+  sum_answered : (b e : ℕ) → b ≤ e → e ≤ 2 ^ v.size → (a : Answer) (w : View) → Step v (sum b e) a w → a ≡ gave (plain_sum t.minutes b (e - b)) (range_cells v.size b e)
+  sum_answered b e l h a w s = s.answers ∙ ap reading_reply ((reads_back v t.minutes holds).1 b e l h)
 
-  mean-answered : (b e : ℕ) → b < e → e ≤ 2 ^ v.size → (a : Answer) (w : View) → Step v (mean b e) a w → a ≡ gave (floor (plain_sum t.minutes b (e - b)) (e - b)) (range_cells v.size b e)
-  mean-answered b e l h a w s = s.answers ∙ ap reading_reply ((reads_back v t.minutes holds).2 b e l h)
+  mean_answered : (b e : ℕ) → b < e → e ≤ 2 ^ v.size → (a : Answer) (w : View) → Step v (mean b e) a w → a ≡ gave (floor (plain_sum t.minutes b (e - b)) (e - b)) (range_cells v.size b e)
+  mean_answered b e l h a w s = s.answers ∙ ap reading_reply ((reads_back v t.minutes holds).2 b e l h)
 
 next_right : (founding : View) (h : History) (v : View) → Keeps founding (tally founding.size h) v → (call : Call) (a : Answer) (w : View) → Step v call a w → Right founding h call a
 next_right founding h v k call a w s =
-    record { refusals = refused_as v call a s.answers ∙ recount-refusal founding (tally founding.size h) v k call; answers = s.answers ∙ recount-reply founding (tally founding.size h) v k call }
+    record { refusals = refused_as v call a s.answers ∙ recount_refusal founding (tally founding.size h) v k call; answers = s.answers ∙ recount_reply founding (tally founding.size h) v k call }
 
 all_right : {founding : View} {h : History} {v : View} → Leads founding h v → AllRight founding h
 all_right (begun e) = tt
@@ -158,11 +158,11 @@ sound founding h v l =
       past = all_right l;
       able = able founding t v k;
       next = next_right founding h v k;
-      load_next = λ m p taken written buffer w s. load-confined founding t v k m p taken written buffer w (refusal v (load m p taken buffer)) refl s.answers s.changes;
-      add_next = λ i written x w s. add-confined founding t v k i written x w (refusal v (add i x)) refl s.answers s.changes;
-      points = point-answered founding t v k;
-      sums = sum-answered founding t v k;
-      means = mean-answered founding t v k;
+      load_next = λ m p taken written buffer w s. load_confined founding t v k m p taken written buffer w (refusal v (load m p taken buffer)) refl s.answers s.changes;
+      add_next = λ i written x w s. add_confined founding t v k i written x w (refusal v (add i x)) refl s.answers s.changes;
+      points = point_answered founding t v k;
+      sums = sum_answered founding t v k;
+      means = mean_answered founding t v k;
     }
 
 pub agreement : AgreementHolds

@@ -8,7 +8,7 @@ use Rattle.warehouse.specs.View.{view}
 use Rattle.agreement.specs.Steps.{StepsHold}
 use Rattle.agreement.proofs.Loading.{add_step, load_step}
 use Rattle.agreement.proofs.Raising.{growth_step}
-use Rattle.agreement.proofs.Steps.{point-step, sum_step, mean-step, trend-step, settle_step}
+use Rattle.agreement.proofs.Steps.{point_step, sum_step, mean_step, trend_step, settle_step}
 
 founds : (m : Meaning) (n : ℕ) → Founded (record { size = n; store = m }) → Founded (view m (cut m n))
 founds m n f =
@@ -23,8 +23,8 @@ steps =
       add = λ v w i x r fits a. add_step v w i x fits r a;
       grow = growth_step;
       settle = settle_step;
-      point = point-step;
+      point = point_step;
       sum = sum_step;
-      mean = mean-step;
-      trend = trend-step;
+      mean = mean_step;
+      trend = trend_step;
     }

@@ -71,84 +71,84 @@ module _ (v : View) (below : v.size < 4 * v.store.bands) where
   some : 1 ≤ T
   some = omega arith
 
-  total-is : total T n L ≡ sum
-  total-is = ap held (look_below v.store _ (inside_below T n _ some (omega arith) (total_inside n)))
+  total_is : total T n L ≡ sum
+  total_is = ap held (look_below v.store _ (inside_below T n _ some (omega arith) (total_inside n)))
 
-  sees-top : L top ≡ Ok (x top)
-  sees-top = look_below v.store _ (inside_below T (suc n) _ some below (top_inside n))
+  sees_top : L top ≡ Ok (x top)
+  sees_top = look_below v.store _ (inside_below T (suc n) _ some below (top_inside n))
 
-  sees-tile : L tile ≡ Ok (x tile)
-  sees-tile = look_below v.store _ (inside_below T (suc n) _ some below (tile_inside n))
+  sees_tile : L tile ≡ Ok (x tile)
+  sees_tile = look_below v.store _ (inside_below T (suc n) _ some below (tile_inside n))
 
-  abbrev lowest-in : Bool → ℤ → Option ℕ
-  lowest-in b z = lowest_barred L (put top z ∷ cond b (put tile z ∷ []) [])
+  abbrev lowest_in : Bool → ℤ → Option ℕ
+  lowest_in b z = lowest_barred L (put top z ∷ cond b (put tile z ∷ []) [])
 
-  abbrev newly-in : Bool → ℤ → ℕ
-  newly-in b z = newly L (put top z ∷ cond b (put tile z ∷ []) [])
+  abbrev newly_in : Bool → ℤ → ℕ
+  newly_in b z = newly L (put top z ∷ cond b (put tile z ∷ []) [])
 
   -- a total too large bars every cell that it is written to
-  lowest-large : (b : Bool) → limit < nat_abs sum → lowest-in b sum ≡ Some (cond b tile top)
-  lowest-large true h =
-      let e : barred (L top) sum ≡ true = ap (λ o. barred o sum) sees-top ∙ lt-ltb _ _ h in
-      let f : barred (L tile) sum ≡ true = ap (λ o. barred o sum) sees-tile ∙ lt-ltb _ _ h in
+  lowest_large : (b : Bool) → limit < nat_abs sum → lowest_in b sum ≡ Some (cond b tile top)
+  lowest_large true h =
+      let e : barred (L top) sum ≡ true = ap (λ o. barred o sum) sees_top ∙ lt-ltb _ _ h in
+      let f : barred (L tile) sum ≡ true = ap (λ o. barred o sum) sees_tile ∙ lt-ltb _ _ h in
       let q : min top tile ≡ tile = omega (arith, tile_first T n) in
       ap₂ (λ a b. cond a (Some (lesser top (cond b (Some tile) None))) (cond b (Some tile) None)) e f ∙ ap Some q
-  lowest-large false h =
-      let e : barred (L top) sum ≡ true = ap (λ o. barred o sum) sees-top ∙ lt-ltb _ _ h in
+  lowest_large false h =
+      let e : barred (L top) sum ≡ true = ap (λ o. barred o sum) sees_top ∙ lt-ltb _ _ h in
       ap (λ a. cond a (Some top) None) e
 
-  lowest-small : (b : Bool) → nat_abs sum ≤ limit → lowest-in b sum ≡ None
-  lowest-small true h =
-      let e : barred (L top) sum ≡ false = ap (λ o. barred o sum) sees-top ∙ le-ltb _ _ h in
-      let f : barred (L tile) sum ≡ false = ap (λ o. barred o sum) sees-tile ∙ le-ltb _ _ h in
+  lowest_small : (b : Bool) → nat_abs sum ≤ limit → lowest_in b sum ≡ None
+  lowest_small true h =
+      let e : barred (L top) sum ≡ false = ap (λ o. barred o sum) sees_top ∙ le-ltb _ _ h in
+      let f : barred (L tile) sum ≡ false = ap (λ o. barred o sum) sees_tile ∙ le-ltb _ _ h in
       ap₂ (λ a b. cond a (Some (lesser top (cond b (Some tile) None))) (cond b (Some tile) None)) e f
-  lowest-small false h =
-      let e : barred (L top) sum ≡ false = ap (λ o. barred o sum) sees-top ∙ le-ltb _ _ h in
+  lowest_small false h =
+      let e : barred (L top) sum ≡ false = ap (λ o. barred o sum) sees_top ∙ le-ltb _ _ h in
       ap (λ a. cond a (Some top) None) e
 
-  newly-is : (b : Bool) → newly-in b sum ≡ (weight sum - weight (x top)) + cond b (weight sum - weight (x tile)) 0
-  newly-is true =
-      let e = ap (λ o. weight (held o)) sees-top in
-      let f = ap (λ o. weight (held o)) sees-tile in
+  newly_is : (b : Bool) → newly_in b sum ≡ (weight sum - weight (x top)) + cond b (weight sum - weight (x tile)) 0
+  newly_is true =
+      let e = ap (λ o. weight (held o)) sees_top in
+      let f = ap (λ o. weight (held o)) sees_tile in
       omega arith
-  newly-is false = ap (λ o. (weight sum - weight (held o)) + 0) sees-top
+  newly_is false = ap (λ o. (weight sum - weight (held o)) + 0) sees_top
 
   -- the checks as functions of the total
-  abbrev cell-checks : ℤ → Option Fault
-  cell-checks z = or (at (λ c. bar (L c) c) (lowest-in (fills n) z)) (or (check (lt_z v.store.room (pos (newly-in (fills n) z))) Full) None)
+  abbrev cell_checks : ℤ → Option Fault
+  cell_checks z = or (at (λ c. bar (L c) c) (lowest_in (fills n) z)) (or (check (lt_z v.store.room (pos (newly_in (fills n) z))) Full) None)
 
-  refusal_is : refusal v grow ≡ cell-checks sum
+  refusal_is : refusal v grow ≡ cell_checks sum
   unfolding refusal
-  refusal_is = next _ _ (cell-checks sum) (ap (λ b. check b Top) (lt-leb _ _ below)) (ap cell-checks total-is)
+  refusal_is = next _ _ (cell_checks sum) (ap (λ b. check b Top) (lt-leb _ _ below)) (ap cell_checks total_is)
 
-  bar-is : (b : Bool) → bar (L (cond b tile top)) (cond b tile top) ≡ Large (cond b tile top)
-  bar-is true = ap (λ o. bar o tile) sees-tile
-  bar-is false = ap (λ o. bar o top) sees-top
+  bar_is : (b : Bool) → bar (L (cond b tile top)) (cond b tile top) ≡ Large (cond b tile top)
+  bar_is true = ap (λ o. bar o tile) sees_tile
+  bar_is false = ap (λ o. bar o top) sees_top
 
-  pub grow-large : (Small sum → ⊥) → refusal v grow ≡ Some (Large (cond (fills n) tile top))
-  grow-large big =
+  pub grow_large : (Small sum → ⊥) → refusal v grow ≡ Some (Large (cond (fills n) tile top))
+  grow_large big =
       let h : limit < nat_abs sum = ⊎_elim (λ lt. lt) (λ (le : nat_abs sum ≤ limit). absurd (big (small_abs sum le))) (cases_lt limit (nat_abs sum)) in
-      refusal_is ∙ hit _ _ (Large (cond (fills n) tile top)) (ap (at (λ c. bar (L c) c)) (lowest-large (fills n) h) ∙ ap Some (bar-is (fills n)))
+      refusal_is ∙ hit _ _ (Large (cond (fills n) tile top)) (ap (at (λ c. bar (L c) c)) (lowest_large (fills n) h) ∙ ap Some (bar_is (fills n)))
 
-  pub grow-full : Small sum → v.store.room <ℤ pos started → refusal v grow ≡ Some Full
-  grow-full small over =
+  pub grow_full : Small sum → v.store.room <ℤ pos started → refusal v grow ≡ Some Full
+  grow_full small over =
       refusal_is
-      ∙ next _ _ (Some Full) (ap (at (λ c. bar (L c) c)) (lowest-small (fills n) (abs_small sum small)))
-      (hit _ _ Full (ap (λ b. check b Full) (crowded (lt_z v.store.room (pos (newly-in (fills n) sum))) refl)))
+      ∙ next _ _ (Some Full) (ap (at (λ c. bar (L c) c)) (lowest_small (fills n) (abs_small sum small)))
+      (hit _ _ Full (ap (λ b. check b Full) (crowded (lt_z v.store.room (pos (newly_in (fills n) sum))) refl)))
     where
-      crowded : (b : Bool) → lt_z v.store.room (pos (newly-in (fills n) sum)) ≡ b → lt_z v.store.room (pos (newly-in (fills n) sum)) ≡ true
+      crowded : (b : Bool) → lt_z v.store.room (pos (newly_in (fills n) sum)) ≡ b → lt_z v.store.room (pos (newly_in (fills n) sum)) ≡ true
       crowded true e = e
-      crowded false e = absurd (omega (arith, ints, newly-is (fills n)))
+      crowded false e = absurd (omega (arith, ints, newly_is (fills n)))
 
-  pub grow-none : Small sum → pos started ≤ℤ v.store.room → refusal v grow ≡ None
-  grow-none small enough =
+  pub grow_none : Small sum → pos started ≤ℤ v.store.room → refusal v grow ≡ None
+  grow_none small enough =
       refusal_is
-      ∙ next _ _ None (ap (at (λ c. bar (L c) c)) (lowest-small (fills n) (abs_small sum small)))
-      (next _ _ None (ap (λ b. check b Full) (roomy (lt_z v.store.room (pos (newly-in (fills n) sum))) refl)) refl)
+      ∙ next _ _ None (ap (at (λ c. bar (L c) c)) (lowest_small (fills n) (abs_small sum small)))
+      (next _ _ None (ap (λ b. check b Full) (roomy (lt_z v.store.room (pos (newly_in (fills n) sum))) refl)) refl)
     where
-      roomy : (b : Bool) → lt_z v.store.room (pos (newly-in (fills n) sum)) ≡ b → lt_z v.store.room (pos (newly-in (fills n) sum)) ≡ false
+      roomy : (b : Bool) → lt_z v.store.room (pos (newly_in (fills n) sum)) ≡ b → lt_z v.store.room (pos (newly_in (fills n) sum)) ≡ false
       roomy false e = e
-      roomy true e = absurd (omega (arith, ints, newly-is (fills n)))
+      roomy true e = absurd (omega (arith, ints, newly_is (fills n)))
 
 pub grow_top : (v : View) → 4 * v.store.bands ≤ v.size → refusal v grow ≡ Some Top
 unfolding refusal

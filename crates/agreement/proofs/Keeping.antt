@@ -16,7 +16,7 @@ use Rattle.haar.proofs.Load.{founded, loaded}
 use Rattle.haar.proofs.Load as haar-load
 use Rattle.haar.proofs.Growth.{growth}
 use Rattle.haar.proofs.Read.{chunk_blank, plus_blank, grow_blank}
-use Rattle.haar.proofs.Count.{coefficients-has}
+use Rattle.haar.proofs.Count.{coefficients_has}
 use Rattle.store.specs.Meaning.{Meaning, filled}
 use Rattle.store.proofs.Counting.{filled_same}
 use Rattle.warehouse.specs.declared.fault.Fault.{Fault}
@@ -26,7 +26,7 @@ use Rattle.warehouse.specs.Read.{look, limit}
 use Rattle.warehouse.specs.View.{View}
 use Rattle.loads.specs.Addition.{Lies}
 use Rattle.loads.specs.Share.{minutes}
-use Rattle.loads.proofs.Splits.{minutes-chunk}
+use Rattle.loads.proofs.Splits.{minutes_chunk}
 use Rattle.agreement.specs.Call.{Call, load, add, grow, settle, point, sum, mean, trend, Answer, fault_of}
 use Rattle.agreement.specs.Check.{put, held, load_writes, total_cell, total, growth_writes, barred, bar, lowest_barred, chunk_checks, load_checks, growth_checks, refusal}
 use Rattle.agreement.specs.Share.{chunk_values, share}
@@ -35,7 +35,7 @@ use Rattle.agreement.specs.History.{Tally, plus, enter, enter_if, tally, new}
 use Rattle.agreement.proofs.Cells.{look_below}
 use Rattle.agreement.proofs.Checks.{Passed, passes, check_none, at_none, lowest_barred_none, unbarred, lies}
 use Rattle.agreement.proofs.Growing.{total_inside, top_inside}
-use Rattle.agreement.proofs.Shares.{as-loaded}
+use Rattle.agreement.proofs.Shares.{as_loaded}
 use Rattle.agreement.proofs.Replies.{refused_as}
 
 pub record Keeps (founding : View) (t : Tally) (v : View) : Type 0 where
@@ -79,8 +79,8 @@ carry T T' n n' f x y a b one fits e h =
     (record { held = λ s i. e (cell_number T s) (inside_below T n s one fits i) ∙ h.held s i; empty = λ c l none. e c l ∙ h.empty c l none }))
 
 module _ (founding : View) (t : Tally) (v : View) (k : Keeps founding t v) where
-  same-keeps : (w : View) → Kept v w → Keeps founding t w
-  same-keeps w s =
+  same_keeps : (w : View) → Kept v w → Keeps founding t w
+  same_keeps w s =
       record {
         bands = s.store.bands ∙ k.bands;
         some = rw s.store.bands k.some;
@@ -97,23 +97,23 @@ module _ (founding : View) (t : Tally) (v : View) (k : Keeps founding t v) where
     there : Lies v.size m p
     there = lies v.size m p Domain passed.0
 
-    unbarred-writes : lowest_barred (look v.store) (load_writes v.store.bands v.size (look v.store) m p values) ≡ None
-    unbarred-writes = at_none (λ c. bar (look v.store c) c) _ passed.1.1.0
+    unbarred_writes : lowest_barred (look v.store) (load_writes v.store.bands v.size (look v.store) m p values) ≡ None
+    unbarred_writes = at_none (λ c. bar (look v.store c) c) _ passed.1.1.0
 
-    touched-small : (s : Coefficient) → Inside v.size s → Touched v.size m p s → nat_abs (w.store.cells (cell_number v.store.bands s)) ≤ limit
-    touched-small s i h =
+    touched_small : (s : Coefficient) → Inside v.size s → Touched v.size m p s → nat_abs (w.store.cells (cell_number v.store.bands s)) ≤ limit
+    touched_small s i h =
         let b = inside_below v.store.bands v.size s k.some k.fits i in
         let l = look_below v.store _ b in
-        let mem = Memᴰ.map (λ s. put (cell_number v.store.bands s) (held (look v.store (cell_number v.store.bands s)) +ℤ share m p values s)) (coefficients-has v.store.bands v.size m p k.some k.fits there.low there.inside s i h) in
-        let u = lowest_barred_none (look v.store) _ unbarred-writes _ _ mem in
+        let mem = Memᴰ.map (λ s. put (cell_number v.store.bands s) (held (look v.store (cell_number v.store.bands s)) +ℤ share m p values s)) (coefficients_has v.store.bands v.size m p k.some k.fits there.low there.inside s i h) in
+        let u = lowest_barred_none (look v.store) _ unbarred_writes _ _ mem in
         subst (λ z. nat_abs z ≤ limit) (sym (added.cells.touched s i h))
         (unbarred (v.store.cells (cell_number v.store.bands s)) (v.store.cells (cell_number v.store.bands s) +ℤ share m p values s) (subst (λ o. barred o (held o +ℤ share m p values s) ≡ false) l u))
 
-    others-small : (c : ℕ) → c < cell_count v.store.bands → nat_abs (w.store.cells c) ≤ limit
-    others-small c b =
+    others_small : (c : ℕ) → c < cell_count v.store.bands → nat_abs (w.store.cells c) ≤ limit
+    others_small c b =
         ⊎_elim
         (λ (s, i, e).
-        ⊎_elim (λ (h : Touched v.size m p s). subst (λ c. nat_abs (w.store.cells c) ≤ limit) e (touched-small s i h))
+        ⊎_elim (λ (h : Touched v.size m p s). subst (λ c. nat_abs (w.store.cells c) ≤ limit) e (touched_small s i h))
         (λ un. kept (λ s' i' h' e'. un (subst (Touched v.size m p) (one_coefficient v.store.bands v.size s' s k.some k.fits i' i (e' ∙ sym e)) h')))
         (cases_eq (index s / 2 ^ (m - level v.size s)) (p / 2 ^ (level v.size s - m))))
         (λ none. kept (λ s i _ e. none s i e))
@@ -122,17 +122,17 @@ module _ (founding : View) (t : Tally) (v : View) (k : Keeps founding t v) where
         kept : ((s : Coefficient) → Inside v.size s → Touched v.size m p s → cell_number v.store.bands s ≡ c → ⊥) → nat_abs (w.store.cells c) ≤ limit
         kept un = subst (λ z. nat_abs z ≤ limit) (sym (added.cells.others c b un)) (k.small c b)
 
-    added-keeps : Keeps founding (plus t m p values) w
-    added-keeps =
+    added_keeps : Keeps founding (plus t m p values) w
+    added_keeps =
         record {
           bands = added.bands ∙ k.bands;
           some = rw added.bands k.some;
           size = added.size ∙ k.size;
           fits = omega (arith, added.size, added.bands, k.fits);
           cells = carry _ _ _ _ _ w.store.cells w.store.cells added.bands added.size k.some k.fits (λ _ _. refl)
-              (loaded v.store.bands v.size m p t.minutes (minutes m p values) v.store.cells w.store.cells k.some k.fits there.low (minutes-chunk m p values) k.cells (as-loaded _ _ m p values _ _ there.low added.cells));
-          blank = rw added.size (plus_blank v.size t.minutes (minutes m p values) k.blank (chunk_blank v.size m p (minutes m p values) there.low there.inside (minutes-chunk m p values)));
-          small = λ c h. others-small c (subst (λ T. c < cell_count T) added.bands h);
+              (loaded v.store.bands v.size m p t.minutes (minutes m p values) v.store.cells w.store.cells k.some k.fits there.low (minutes_chunk m p values) k.cells (as_loaded _ _ m p values _ _ there.low added.cells));
+          blank = rw added.size (plus_blank v.size t.minutes (minutes m p values) k.blank (chunk_blank v.size m p (minutes m p values) there.low there.inside (minutes_chunk m p values)));
+          small = λ c h. others_small c (subst (λ T. c < cell_count T) added.bands h);
           room = ap (λ T. w.store.room +ℤ pos (filled w.store.cells (cell_count T))) added.bands ∙ added.room ∙ k.room;
         }
 
@@ -141,18 +141,18 @@ module _ (founding : View) (t : Tally) (v : View) (k : Keeps founding t v) where
     below_top : v.size < 4 * v.store.bands
     below_top = leb-false _ _ (check_none _ Top passed.0)
 
-    total-is : total v.store.bands v.size (look v.store) ≡ v.store.cells (total_cell v.store.bands v.size)
-    total-is = ap held (look_below v.store _ (inside_below v.store.bands v.size _ k.some k.fits (total_inside v.size)))
+    total_is : total v.store.bands v.size (look v.store) ≡ v.store.cells (total_cell v.store.bands v.size)
+    total_is = ap held (look_below v.store _ (inside_below v.store.bands v.size _ k.some k.fits (total_inside v.size)))
 
-    total-small : nat_abs (v.store.cells (total_cell v.store.bands v.size)) ≤ limit
-    total-small =
+    total_small : nat_abs (v.store.cells (total_cell v.store.bands v.size)) ≤ limit
+    total_small =
         let e : lowest_barred (look v.store) (growth_writes v.store.bands v.size (look v.store)) ≡ None = at_none (λ c. bar (look v.store c) c) _ passed.1.0 in
         let b = look_below v.store _ (inside_below v.store.bands (suc v.size) _ k.some below_top (top_inside v.size)) in
         let u = lowest_barred_none (look v.store) (growth_writes v.store.bands v.size (look v.store)) e _ (total v.store.bands v.size (look v.store)) (Memᴰ.head refl) in
-        subst (λ z. nat_abs z ≤ limit) total-is (unbarred (v.store.cells (cell_number v.store.bands (Difference (suc v.size) 0))) (total v.store.bands v.size (look v.store)) (subst (λ o. barred o (total v.store.bands v.size (look v.store)) ≡ false) b u))
+        subst (λ z. nat_abs z ≤ limit) total_is (unbarred (v.store.cells (cell_number v.store.bands (Difference (suc v.size) 0))) (total v.store.bands v.size (look v.store)) (subst (λ o. barred o (total v.store.bands v.size (look v.store)) ≡ false) b u))
 
-    grown-small : (c : ℕ) → c < cell_count v.store.bands → nat_abs (w.store.cells c) ≤ limit
-    grown-small c b =
+    grown_small : (c : ℕ) → c < cell_count v.store.bands → nat_abs (w.store.cells c) ≤ limit
+    grown_small c b =
         ⊎_elim (λ (e : c ≡ cell_number v.store.bands (Difference (suc v.size) 0)). new-cell (ap w.store.cells e ∙ raised.cells.top))
         (λ ne.
         ⊎_elim (λ (h : Fills v.size × (c ≡ cell_number v.store.bands (TileSum (v.size / 4) 0))). new-cell (ap w.store.cells h.1 ∙ raised.cells.tile h.0))
@@ -161,7 +161,7 @@ module _ (founding : View) (t : Tally) (v : View) (k : Keeps founding t v) where
         (cases_eq c (cell_number v.store.bands (Difference (suc v.size) 0)))
       where
         new-cell : w.store.cells c ≡ v.store.cells (total_cell v.store.bands v.size) → nat_abs (w.store.cells c) ≤ limit
-        new-cell e = subst (λ z. nat_abs z ≤ limit) (sym e) total-small
+        new-cell e = subst (λ z. nat_abs z ≤ limit) (sym e) total_small
 
     raised_keeps : Keeps founding (record { size = suc t.size; minutes = t.minutes }) w
     raised_keeps =
@@ -174,25 +174,25 @@ module _ (founding : View) (t : Tally) (v : View) (k : Keeps founding t v) where
               (growth v.store.bands v.size t.minutes v.store.cells below_top k.blank k.cells w.store.cells
               (subst (λ z. Grown v.store.bands v.size z v.store.cells w.store.cells) (haar-load.total_cell v.store.bands v.size t.minutes v.store.cells k.cells) raised.cells));
           blank = rw raised.size (grow_blank v.size t.minutes k.blank);
-          small = λ c h. grown-small c (subst (λ T. c < cell_count T) raised.bands h);
+          small = λ c h. grown_small c (subst (λ T. c < cell_count T) raised.bands h);
           room = ap (λ T. w.store.room +ℤ pos (filled w.store.cells (cell_count T))) raised.bands ∙ raised.room ∙ k.room;
         }
 
-  changes-keep : (call : Call) (w : View) → refusal v call ≡ None → Changes v call w → Keeps founding (enter t call) w
+  changes_keep : (call : Call) (w : View) → refusal v call ≡ None → Changes v call w → Keeps founding (enter t call) w
   unfolding refusal
-  changes-keep (load m p taken buffer) w e d = added-keeps m p (chunk_values m buffer) w (passes (load_checks v.size v.store.bands v.store.room (look v.store) m p taken buffer) e).1.1 d
-  changes-keep (add i x) w e d = added-keeps 0 i (x ∷ []) w (passes (chunk_checks v.size v.store.bands v.store.room (look v.store) 0 i (x ∷ [])) e) d
-  changes-keep grow w e d = raised_keeps w (passes (growth_checks v.size v.store.bands v.store.room (look v.store)) e) d
-  changes-keep settle w e d = same-keeps w (record { size = d.size; store = d.store.same })
-  changes-keep (point i) w e d = same-keeps w d.kept
-  changes-keep (sum a b) w e d = same-keeps w d.kept
-  changes-keep (mean a b) w e d = same-keeps w d.kept
-  changes-keep (trend j i) w e d = same-keeps w d.kept
+  changes_keep (load m p taken buffer) w e d = added_keeps m p (chunk_values m buffer) w (passes (load_checks v.size v.store.bands v.store.room (look v.store) m p taken buffer) e).1.1 d
+  changes_keep (add i x) w e d = added_keeps 0 i (x ∷ []) w (passes (chunk_checks v.size v.store.bands v.store.room (look v.store) 0 i (x ∷ [])) e) d
+  changes_keep grow w e d = raised_keeps w (passes (growth_checks v.size v.store.bands v.store.room (look v.store)) e) d
+  changes_keep settle w e d = same_keeps w (record { size = d.size; store = d.store.same })
+  changes_keep (point i) w e d = same_keeps w d.kept
+  changes_keep (sum a b) w e d = same_keeps w d.kept
+  changes_keep (mean a b) w e d = same_keeps w d.kept
+  changes_keep (trend j i) w e d = same_keeps w d.kept
 
-  changes-by-keep : (o : Option Fault) (call : Call) (w : View) → refusal v call ≡ o → ChangesBy o v call w → Keeps founding (enter_if o t call) w
-  changes-by-keep None call w e s = changes-keep call w e s
-  changes-by-keep (Some f) call w e s = same-keeps w s.kept
+  changes_by_keep : (o : Option Fault) (call : Call) (w : View) → refusal v call ≡ o → ChangesBy o v call w → Keeps founding (enter_if o t call) w
+  changes_by_keep None call w e s = changes_keep call w e s
+  changes_by_keep (Some f) call w e s = same_keeps w s.kept
 
 pub step_keeps : (founding : View) (t : Tally) (v : View) (call : Call) (a : Answer) (w : View) → Keeps founding t v → Step v call a w → Keeps founding (enter_if (fault_of a) t call) w
 step_keeps founding t v call a w k s =
-    subst (λ o. Keeps founding (enter_if o t call) w) (sym (refused_as v call a s.answers)) (changes-by-keep founding t v k (refusal v call) call w refl s.changes)
+    subst (λ o. Keeps founding (enter_if o t call) w) (sym (refused_as v call a s.answers)) (changes_by_keep founding t v k (refusal v call) call w refl s.changes)

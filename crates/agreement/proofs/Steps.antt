@@ -23,17 +23,17 @@ asks None v call s = s
 asks (Some f) v call s = unchanged v
 
 module _ (v : View) where
-  pub point-step : (i : ℕ) (r : Result Reading Refusal) → r ≡ point_answer v i → Step v (point i) (reading_reply r) v
-  point-step i r e = record { answers = ap reading_reply e; changes = asks (refusal v (point i)) v (point i) (unchanged v) }
+  pub point_step : (i : ℕ) (r : Result Reading Refusal) → r ≡ point_answer v i → Step v (point i) (reading_reply r) v
+  point_step i r e = record { answers = ap reading_reply e; changes = asks (refusal v (point i)) v (point i) (unchanged v) }
 
   pub sum_step : (a b : ℕ) (r : Result Reading Refusal) → r ≡ sum_answer v a b → Step v (sum a b) (reading_reply r) v
   sum_step a b r e = record { answers = ap reading_reply e; changes = asks (refusal v (sum a b)) v (sum a b) (unchanged v) }
 
-  pub mean-step : (a b : ℕ) (r : Result Reading Refusal) → r ≡ mean_answer v a b → Step v (mean a b) (reading_reply r) v
-  mean-step a b r e = record { answers = ap reading_reply e; changes = asks (refusal v (mean a b)) v (mean a b) (unchanged v) }
+  pub mean_step : (a b : ℕ) (r : Result Reading Refusal) → r ≡ mean_answer v a b → Step v (mean a b) (reading_reply r) v
+  mean_step a b r e = record { answers = ap reading_reply e; changes = asks (refusal v (mean a b)) v (mean a b) (unchanged v) }
 
-  pub trend-step : (j k : ℕ) (r : Result Trend Refusal) → r ≡ trend_answer v j k → Step v (trend j k) (trend_reply r) v
-  trend-step j k r e = record { answers = ap trend_reply e; changes = asks (refusal v (trend j k)) v (trend j k) (unchanged v) }
+  pub trend_step : (j k : ℕ) (r : Result Trend Refusal) → r ≡ trend_answer v j k → Step v (trend j k) (trend_reply r) v
+  trend_step j k r e = record { answers = ap trend_reply e; changes = asks (refusal v (trend j k)) v (trend j k) (unchanged v) }
 
   pub settle_step : (w : View) → w.size ≡ v.size → Settles v.store w.store → Step v settle settled w
   unfolding refusal

@@ -20,7 +20,7 @@ use Rattle.warehouse.specs.Founding.{Founded}
 use Rattle.warehouse.specs.Read.{lower, descend, read, longest, split, read_all, all_cells}
 use Rattle.warehouse.specs.View.{View}
 use Rattle.loads.specs.Share.{minutes}
-use Rattle.loads.proofs.Splits.{minutes-chunk}
+use Rattle.loads.proofs.Splits.{minutes_chunk}
 use Rattle.agreement.specs.Call.{Call, load, add, grow, point, sum, mean, Answer, wrote, grown, gave, refused}
 use Rattle.agreement.specs.Check.{refusal}
 use Rattle.agreement.specs.Reply.{reply}
@@ -96,7 +96,7 @@ at_17 = refl
 
 elsewhere : (i : ℕ) → (i ≡ 5 → ⊥) → (i ≡ 16 → ⊥) → (i ≡ 17 → ⊥) → tallied i ≡ worked_minutes i
 elsewhere i a b c =
-    ap₂ (λ x y. (pos 0 +ℤ x) +ℤ y) (minutes-chunk 0 5 (pos 7 ∷ []) i (λ e. a (omega arith))) (minutes-chunk 1 8 (pos 3 ∷ negsuc 0 ∷ []) i (λ e. omega arith))
+    ap₂ (λ x y. (pos 0 +ℤ x) +ℤ y) (minutes_chunk 0 5 (pos 7 ∷ []) i (λ e. a (omega arith))) (minutes_chunk 1 8 (pos 3 ∷ negsuc 0 ∷ []) i (λ e. omega arith))
     ∙ sym (cond-false (eqb i 5) (pos 7) _ (ne_eqb i 5 a) ∙ cond-false (eqb i 16) (pos 3) _ (ne_eqb i 16 b) ∙ cond-false (eqb i 17) (negsuc 0) (pos 0) (ne_eqb i 17 c))
 
 same_minutes : (i : ℕ) → tallied i ≡ worked_minutes i
@@ -122,10 +122,10 @@ module _ (v : View) (k : Keeps gym (tally 4 worked) v) where
   nonzero : filled v.store.cells (cell_count 3) ≡ 12
   nonzero = filled_same (lookup worked_cells) v.store.cells (cell_count 3) cells ∙ twelve
 
-  worked-cells-are : WorkedCells v
-  worked-cells-are =
+  worked_cells_are : WorkedCells v
+  worked_cells_are =
       let e = ap (λ T. filled v.store.cells (cell_count T)) k.bands in
       record { size = k.size; cells = cells; nonzero = nonzero; room = omega (arith, ints, k.room, e, nonzero) }
 
 pub worked_holds : WorkedHolds
-worked_holds = (happens, λ v l. worked-cells-are v (leads_keeps l))
+worked_holds = (happens, λ v l. worked_cells_are v (leads_keeps l))

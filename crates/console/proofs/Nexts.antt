@@ -21,7 +21,7 @@ use Rattle.feedlaw.specs.Lines.{ending, shown, told, text}
 use Rattle.feedlaw.specs.Law.{load_of, desk_of, Turns}
 use Rattle.feedlaw.proofs.Obeying.{obeyed_right}
 use Rattle.feedlaw.proofs.Prefixes.{with_more, decoded_more}
-use Rattle.feedlaw.proofs.Telling.{told-turn, told-stop}
+use Rattle.feedlaw.proofs.Telling.{told_turn, told_stop}
 use Rattle.console.specs.declared.ends.Broken.{Broken}
 use Rattle.console.specs.Ends.{Then}
 use Rattle.console.specs.Playing.{state, Ended, After, StepsOn, Nexts}
@@ -46,12 +46,12 @@ more_refused bs more f h a e =
     ⊎_elim (λ (u : (length bs < 9) × (decoded bs ≡ Err Cut)). ap (λ x. decoded (bs ++ x)) (a u.0) ∙ ap decoded (append-nil bs) ∙ e) (λ u. u ∙ ap (with_more more) e) (decoded_more bs more h)
 
 module _ (v v' : View) (l l' : Loading) (zs zs' : List ℤ) (bs : List ℕ) (o : ℕ) (h : 0 < length bs) (K K' : List ℕ → Type 0) where
-  took-all : (ls ms : List Line) → ls ≡ ms → ((w : List ℕ) → K w → K' (w ++ text ls)) → (w : List ℕ) → K w → K' (w ++ text ms)
-  took-all ls ms e t w k = subst (λ x. K' (w ++ text x)) e (t w k)
+  took_all : (ls ms : List Line) → ls ≡ ms → ((w : List ℕ) → K w → K' (w ++ text ls)) → (w : List ℕ) → K w → K' (w ++ text ms)
+  took_all ls ms e t w k = subst (λ x. K' (w ++ text x)) e (t w k)
 
-  on-went : (line : Option Line) (w : ℕ) → ((x : List ℕ) → K x → K' (x ++ text (shown line))) → (c : Command) (rest : List ℕ) → decoded bs ≡ Ok (c, rest) → StepsBy (Ok (c, rest)) v l zs bs o l' (On line w) zs' v'
+  on_went : (line : Option Line) (w : ℕ) → ((x : List ℕ) → K x → K' (x ++ text (shown line))) → (c : Command) (rest : List ℕ) → decoded bs ≡ Ok (c, rest) → StepsBy (Ok (c, rest)) v l zs bs o l' (On line w) zs' v'
       → StepsOn (state v l zs) o bs K K' w (state v' l' zs')
-  on-went line w took c rest e s =
+  on_went line w took c rest e s =
       let width : w ≡ length bs - length rest = after_width s.0 (length bs - length rest) w line s.2 in
       let short = shorter bs rest c e in
       let here : rest ≡ drop w bs = after_command bs rest c e ∙ ap (λ k. drop k bs) (sym width) in
@@ -66,25 +66,25 @@ module _ (v v' : View) (l l' : Loading) (zs zs' : List ℤ) (bs : List ℕ) (o :
               history = t.history;
               leads = t.leads;
               lines = shown u.line;
-              took = took-all (shown line) (shown u.line) (ap shown says) took;
+              took = took_all (shown line) (shown u.line) (ap shown says) took;
               come = λ more _.
                   let long : 0 < length (bs ++ more) = omega (arith, length-append bs more) in
                   let many : length (bs ++ more) - length (rest ++ more) ≡ w = omega (arith, length-append bs more, length-append rest more) in
-                  told-turn F.store.bands F.store.room (desk_of F past l zs) o (bs ++ more) (rest ++ more) c long (more_decoded bs more c rest h e)
+                  told_turn F.store.bands F.store.room (desk_of F past l zs) o (bs ++ more) (rest ++ more) c long (more_decoded bs more c rest h e)
                   ∙ ap₂ (λ (k : ℕ) (xs : List ℕ). shown u.line ++ told F.store.bands F.store.room u.desk (o + k) (xs ++ more)) many here
                   ∙ ap (λ d. shown u.line ++ told F.store.bands F.store.room d (o + w) (drop w bs ++ more)) t.desk;
             };
       }
 
-  pub next-on : (line : Option Line) (w : ℕ) → ((x : List ℕ) → K x → K' (x ++ text (shown line))) → Steps v l zs bs o l' (On line w) zs' v' → StepsOn (state v l zs) o bs K K' w (state v' l' zs')
-  next-on line w took s = by (decoded bs) refl s
+  pub next_on : (line : Option Line) (w : ℕ) → ((x : List ℕ) → K x → K' (x ++ text (shown line))) → Steps v l zs bs o l' (On line w) zs' v' → StepsOn (state v l zs) o bs K K' w (state v' l' zs')
+  next_on line w took s = by (decoded bs) refl s
     where
       by : (r : Result (Command × List ℕ) DecodeFault) → decoded bs ≡ r → StepsBy r v l zs bs o l' (On line w) zs' v' → StepsOn (state v l zs) o bs K K' w (state v' l' zs')
       by (Err f) e s = absurd (let q = s.0 in let z : ◌≡◌ {A = ℕ} 0 1 = cc in omega arith)
-      by (Ok (c, rest)) e s = on-went line w took c rest e s
+      by (Ok (c, rest)) e s = on_went line w took c rest e s
 
-  pub next-end : (last : Line) → ((x : List ℕ) → K x → K' (x ++ text (last ∷ []))) → Steps v l zs bs o l' (End last) zs' v' → (F : View) (past : History) → Leads F past v → Ended F past (state v l zs) o bs (After bs) K K' (state v' l' zs')
-  next-end last took s F past leads = by (decoded bs) refl s
+  pub next_end : (last : Line) → ((x : List ℕ) → K x → K' (x ++ text (last ∷ []))) → Steps v l zs bs o l' (End last) zs' v' → (F : View) (past : History) → Leads F past v → Ended F past (state v l zs) o bs (After bs) K K' (state v' l' zs')
+  next_end last took s F past leads = by (decoded bs) refl s
     where
       by : (r : Result (Command × List ℕ) DecodeFault) → decoded bs ≡ r → StepsBy r v l zs bs o l' (End last) zs' v' → Ended F past (state v l zs) o bs (After bs) K K' (state v' l' zs')
       by (Err f) e s =
@@ -93,10 +93,10 @@ module _ (v v' : View) (l l' : Loading) (zs zs' : List ℤ) (bs : List ℕ) (o :
             history = past;
             leads = subst (Leads F past) (sym s.3) leads;
             lines = line.Refused (decode_fault_number f) o ∷ [];
-            took = took-all (last ∷ []) (line.Refused (decode_fault_number f) o ∷ []) (ap (λ x. x ∷ []) says) took;
+            took = took_all (last ∷ []) (line.Refused (decode_fault_number f) o ∷ []) (ap (λ x. x ∷ []) says) took;
             come = λ more a.
                 let long : 0 < length (bs ++ more) = omega (arith, length-append bs more) in
-                told-stop F.store.bands F.store.room (desk_of F past l zs) o (bs ++ more) f long (more_refused bs more f h a e)
+                told_stop F.store.bands F.store.room (desk_of F past l zs) o (bs ++ more) f long (more_refused bs more f h a e)
                 ∙ ap (λ x. line.Refused (decode_fault_number f) o ∷ ending (load_of x)) (sym s.1);
           }
       by (Ok (c, rest)) e s =
@@ -104,14 +104,14 @@ module _ (v v' : View) (l l' : Loading) (zs zs' : List ℤ) (bs : List ℕ) (o :
           absurd (let q = s.2 ∙ t.line (length bs - length rest) in let z : ◌≡◌ {A = ℕ} 0 1 = cc in omega arith)
 
   -- with what printing answered
-  pub printed-on : (stuck : Type 0) (out : Outcome) (said : Option Line) (w : ℕ) (r : Result (Option ℕ) Broken) → out ≡ On said w → Steps v l zs bs o l' out zs' v' → Then K K' stuck (text (shown said)) (Some w) r
+  pub printed_on : (stuck : Type 0) (out : Outcome) (said : Option Line) (w : ℕ) (r : Result (Option ℕ) Broken) → out ≡ On said w → Steps v l zs bs o l' out zs' v' → Then K K' stuck (text (shown said)) (Some w) r
       → Nexts (state v l zs) o bs K K' stuck r (state v' l' zs')
-  printed-on stuck out said w (Ok x) e s t =
-      subst (λ y. Nexts (state v l zs) o bs K K' stuck (Ok y) (state v' l' zs')) (sym t.0) (next-on said w t.1 (subst (λ y. Steps v l zs bs o l' y zs' v') e s))
-  printed-on stuck out said w (Err b) e s t = t
+  printed_on stuck out said w (Ok x) e s t =
+      subst (λ y. Nexts (state v l zs) o bs K K' stuck (Ok y) (state v' l' zs')) (sym t.0) (next_on said w t.1 (subst (λ y. Steps v l zs bs o l' y zs' v') e s))
+  printed_on stuck out said w (Err b) e s t = t
 
-  pub printed-end : (stuck : Type 0) (out : Outcome) (last : Line) (r : Result (Option ℕ) Broken) → out ≡ End last → Steps v l zs bs o l' out zs' v' → Then K K' stuck (text (shown (Some last))) None r
+  pub printed_end : (stuck : Type 0) (out : Outcome) (last : Line) (r : Result (Option ℕ) Broken) → out ≡ End last → Steps v l zs bs o l' out zs' v' → Then K K' stuck (text (shown (Some last))) None r
       → Nexts (state v l zs) o bs K K' stuck r (state v' l' zs')
-  printed-end stuck out last (Ok x) e s t =
-      subst (λ y. Nexts (state v l zs) o bs K K' stuck (Ok y) (state v' l' zs')) (sym t.0) (next-end last t.1 (subst (λ y. Steps v l zs bs o l' y zs' v') e s))
-  printed-end stuck out last (Err b) e s t = t
+  printed_end stuck out last (Ok x) e s t =
+      subst (λ y. Nexts (state v l zs) o bs K K' stuck (Ok y) (state v' l' zs')) (sym t.0) (next_end last t.1 (subst (λ y. Steps v l zs bs o l' y zs' v') e s))
+  printed_end stuck out last (Err b) e s t = t

@@ -33,8 +33,8 @@ onward_none s o bs M K =
     }
 
 module _ (s s' s'' : State) (o : ℕ) (bs : List ℕ) (M : List ℕ → Type 0) (K K' K'' : List ℕ → Type 0) (at : ℕ) (on : Onward s o bs M K K' at s') where
-  pub onward-more : (w : ℕ) → StepsOn s' (o + at) (drop at bs) K' K'' w s'' → Onward s o bs M K K'' (at + w) s''
-  onward-more w next =
+  pub onward_more : (w : ℕ) → StepsOn s' (o + at) (drop at bs) K' K'' w s'' → Onward s o bs M K K'' (at + w) s''
+  onward_more w next =
       record {
         within = let n = length-drop at bs in omega (arith, on.within, next.within);
         went = λ F h leads.
@@ -53,9 +53,9 @@ module _ (s s' s'' : State) (o : ℕ) (bs : List ℕ) (M : List ℕ → Type 0) 
             };
       }
 
-  pub onward-end : ((more : List ℕ) → M more → After (drop at bs) more) → ((F : View) (h : History) → Leads F h s'.view → Ended F h s' (o + at) (drop at bs) (After (drop at bs)) K' K'' s'')
+  pub onward_end : ((more : List ℕ) → M more → After (drop at bs) more) → ((F : View) (h : History) → Leads F h s'.view → Ended F h s' (o + at) (drop at bs) (After (drop at bs)) K' K'' s'')
       → (F : View) (h : History) → Leads F h s.view → Ended F h s o bs M K K'' s''
-  onward-end follows end F h leads =
+  onward_end follows end F h leads =
       let a = on.went F h leads in
       let b = end F a.history a.leads in
       record {
@@ -73,11 +73,11 @@ last_follows false bs h more m short = absurd (let l = h refl in omega arith)
 
 -- the answer of a command at the front of the bytes from `at` on, by its case
 module _ (s s' : State) (o : ℕ) (bs : List ℕ) (at : ℕ) (K K' : List ℕ → Type 0) (stuck : Type 0) (r : Result (Option ℕ) Broken) (x : Option ℕ) (e : r ≡ Ok x) (next : Nexts s (o + at) (take (length bs - at) (drop at bs)) K K' stuck r s') where
-  from-here : take (length bs - at) (drop at bs) ≡ drop at bs
-  from-here = take_all (length bs - at) (drop at bs) (let n = length-drop at bs in omega arith)
+  from_here : take (length bs - at) (drop at bs) ≡ drop at bs
+  from_here = take_all (length bs - at) (drop at bs) (let n = length-drop at bs in omega arith)
 
   pub some_next : (w : ℕ) → x ≡ Some w → StepsOn s (o + at) (drop at bs) K K' w s'
-  some_next w q = subst (λ xs. Nexts s (o + at) xs K K' stuck (Ok (Some w)) s') from-here (subst (λ y. Nexts s (o + at) (take (length bs - at) (drop at bs)) K K' stuck y s') (e ∙ ap Ok q) next)
+  some_next w q = subst (λ xs. Nexts s (o + at) xs K K' stuck (Ok (Some w)) s') from_here (subst (λ y. Nexts s (o + at) (take (length bs - at) (drop at bs)) K K' stuck y s') (e ∙ ap Ok q) next)
 
-  pub none-next : x ≡ None → (F : View) (h : History) → Leads F h s.view → Ended F h s (o + at) (drop at bs) (After (drop at bs)) K K' s'
-  none-next q = subst (λ xs. Nexts s (o + at) xs K K' stuck (Ok None) s') from-here (subst (λ y. Nexts s (o + at) (take (length bs - at) (drop at bs)) K K' stuck y s') (e ∙ ap Ok q) next)
+  pub none_next : x ≡ None → (F : View) (h : History) → Leads F h s.view → Ended F h s (o + at) (drop at bs) (After (drop at bs)) K K' s'
+  none_next q = subst (λ xs. Nexts s (o + at) xs K K' stuck (Ok None) s') from_here (subst (λ y. Nexts s (o + at) (take (length bs - at) (drop at bs)) K K' stuck y s') (e ∙ ap Ok q) next)

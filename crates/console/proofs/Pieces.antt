@@ -28,8 +28,8 @@ pumped_none s G K held e =
     }
 
 module _ (s s' : State) (G G' G'' K K' : List ℕ → Type 0) (o : ℕ) (held held' : List ℕ) (n : ℕ) (p : Pumped s G G' K K' s' o held) (b : Brought G' G'' held held' n) where
-  pub pumped-more : Pumped s G G'' K K' s' o held'
-  pumped-more =
+  pub pumped_more : Pumped s G G'' K K' s' o held'
+  pumped_more =
       record {
         bytes = p.bytes ++ b.got;
         given = λ rest g. subst G (sym (append_assoc p.bytes b.got rest)) (p.given (b.got ++ rest) (b.given rest g));
@@ -50,8 +50,8 @@ module _ (s s' : State) (G G' G'' K K' : List ℕ → Type 0) (o : ℕ) (held he
 
 -- the lines of what was read, and of what was then played
 module _ (s s' s'' : State) (G G' K K' K'' : List ℕ → Type 0) (o : ℕ) (held : List ℕ) (p : Pumped s G G' K K' s' o held) where
-  pub pumped-on : (used : ℕ) (K''' : List ℕ → Type 0) → PlaysOn s' o held false K' K'' used s'' → ((w : List ℕ) → K'' w → K''' w) → Pumped s G G' K K''' s'' (o + used) (drop used held)
-  pumped-on used K''' q flushed =
+  pub pumped_on : (used : ℕ) (K''' : List ℕ → Type 0) → PlaysOn s' o held false K' K'' used s'' → ((w : List ℕ) → K'' w → K''' w) → Pumped s G G' K K''' s'' (o + used) (drop used held)
+  pumped_on used K''' q flushed =
       record {
         bytes = p.bytes;
         given = p.given;
@@ -69,8 +69,8 @@ module _ (s s' s'' : State) (G G' K K' K'' : List ℕ → Type 0) (o : ℕ) (hel
       }
 
   -- the last bytes were all obeyed
-  pub drained-last : (used : ℕ) → G' [] → PlaysOn s' o held true K' K'' used s'' → Drained s G K K'' s''
-  drained-last used none q =
+  pub drained_last : (used : ℕ) → G' [] → PlaysOn s' o held true K' K'' used s'' → Drained s G K K'' s''
+  drained_last used none q =
       record {
         bytes = p.bytes;
         given = subst G (append-nil p.bytes) (p.given [] none);
@@ -91,8 +91,8 @@ module _ (s s' s'' : State) (G G' K K' K'' : List ℕ → Type 0) (o : ℕ) (hel
       }
 
   -- the feed ended at a command, whatever bytes come after it
-  pub drained-over : (last : Bool) (rest : List ℕ) → G' rest → Follows last rest → ((F : View) (h : History) → Leads F h s'.view → Ended F h s' o held (Follows last) K' K'' s'') → Drained s G K K'' s''
-  drained-over last rest g follows end =
+  pub drained_over : (last : Bool) (rest : List ℕ) → G' rest → Follows last rest → ((F : View) (h : History) → Leads F h s'.view → Ended F h s' o held (Follows last) K' K'' s'') → Drained s G K K'' s''
+  drained_over last rest g follows end =
       record {
         bytes = p.bytes ++ rest;
         given = p.given rest g;
@@ -112,11 +112,11 @@ module _ (s s' s'' : State) (G G' K K' K'' : List ℕ → Type 0) (o : ℕ) (hel
 
 -- the answer of playing, by its case
 module _ (s s' : State) (o : ℕ) (bs bs' : List ℕ) (last : Bool) (K K' : List ℕ → Type 0) (stuck : Type 0) (r : Result Played Broken) (x : Played) (e : r ≡ Ok x) (same : bs ≡ bs') (p : Plays s o bs last K K' stuck r s') where
-  pub plays-on : (used : ℕ) → x ≡ On used → PlaysOn s o bs' last K K' used s'
-  plays-on used q = subst (λ xs. Plays s o xs last K K' stuck (Ok (On used)) s') same (subst (λ y. Plays s o bs last K K' stuck y s') (e ∙ ap Ok q) p)
+  pub plays_on : (used : ℕ) → x ≡ On used → PlaysOn s o bs' last K K' used s'
+  plays_on used q = subst (λ xs. Plays s o xs last K K' stuck (Ok (On used)) s') same (subst (λ y. Plays s o bs last K K' stuck y s') (e ∙ ap Ok q) p)
 
-  pub plays-over : x ≡ Over → (F : View) (h : History) → Leads F h s.view → Ended F h s o bs' (Follows last) K K' s'
-  plays-over q = subst (λ xs. Plays s o xs last K K' stuck (Ok Over) s') same (subst (λ y. Plays s o bs last K K' stuck y s') (e ∙ ap Ok q) p)
+  pub plays_over : x ≡ Over → (F : View) (h : History) → Leads F h s.view → Ended F h s o bs' (Follows last) K K' s'
+  plays_over q = subst (λ xs. Plays s o xs last K K' stuck (Ok Over) s') same (subst (λ y. Plays s o bs last K K' stuck y s') (e ∙ ap Ok q) p)
 
 -- some bytes may follow: none, if none came
 pub may_follow : (G G' : List ℕ → Type 0) (held held' : List ℕ) (n : ℕ) → Brought G G' held held' n → (rest : List ℕ) × (G' rest × Follows (eqb n 0) rest)

@@ -45,8 +45,8 @@ whole v v' l' zs zs' G K K' K'' K''' d last flushed =
 
 -- on a store that a survey accepted, taken over at the size asked for
 module _ (m : Meaning) (n : ℕ) (founded : Founded (record { size = n; store = m })) where
-  size-kept : (view m (cut m n)).size ≡ n
-  size-kept = let h = founded.sized.fits in omega arith
+  size_kept : (view m (cut m n)).size ≡ n
+  size_kept = let h = founded.sized.fits in omega arith
 
   founds : Founded (view m (cut m n))
   founds = record { sized = record { some = founded.sized.some; fits = let h = founded.sized.fits in omega arith }; empty = founded.empty; room = founded.room }
@@ -58,7 +58,7 @@ module _ (m : Meaning) (n : ℕ) (founded : Founded (record { size = n; store = 
         founded = founded;
         bytes = s.bytes;
         given = s.given;
-        took = λ w k. subst (λ i. K' (w ++ text (told m.bands m.room (desk (tally i new) closed zs) 0 s.bytes))) size-kept (a.took w k);
+        took = λ w k. subst (λ i. K' (w ++ text (told m.bands m.room (desk (tally i new) closed zs) 0 s.bytes))) size_kept (a.took w k);
       }
   ran zs G G' broken K K' stuck (Err Input) v' s = s
   ran zs G G' broken K K' stuck (Err Output) v' s = s

@@ -27,10 +27,10 @@ one_check P f true p q = p refl
 one_check P f false p q = q refl
 
 module _ (P : Option Fault → Type 0) (f g : Fault) where
-  pub two-checks : (a b : Bool) → (a ≡ true → P (Some f)) → (a ≡ false → b ≡ true → P (Some g)) → (a ≡ false → b ≡ false → P None) → P (first (check a f ∷ check b g ∷ []))
-  two-checks true b p q r = p refl
-  two-checks false true p q r = q refl refl
-  two-checks false false p q r = r refl refl
+  pub two_checks : (a b : Bool) → (a ≡ true → P (Some f)) → (a ≡ false → b ≡ true → P (Some g)) → (a ≡ false → b ≡ false → P None) → P (first (check a f ∷ check b g ∷ []))
+  two_checks true b p q r = p refl
+  two_checks false true p q r = q refl refl
+  two_checks false false p q r = r refl refl
 
 module _ (o w : ℕ) where
   -- what a beginning comes to where the checks find f
@@ -38,8 +38,8 @@ module _ (o w : ℕ) where
     pub load : unless f (opened m p 0) closed ≡ load_of (begun q)
     pub line : after (printed (told (λ _. line.Begun) o q)) w ≡ On (checked f o (Some line.Begun)) w
 
-  opens-none : (m p : ℕ) (f : Fault) (q : Result OpenLoad Refusal) → q ≡ Err (refusing f m p) → Opens m p q (Some f)
-  opens-none m p f q e = record { load = ap (λ x. load_of (begun x)) (sym e); line = ap (λ x. after (printed (told (λ _. line.Begun) o x)) w) e }
+  opens_none : (m p : ℕ) (f : Fault) (q : Result OpenLoad Refusal) → q ≡ Err (refusing f m p) → Opens m p q (Some f)
+  opens_none m p f q e = record { load = ap (λ x. load_of (begun x)) (sym e); line = ap (λ x. after (printed (told (λ _. line.Begun) o x)) w) e }
 
   opens_one : (m p : ℕ) (q : Result OpenLoad Refusal) → IsOpen q m p 0 → Opens m p q None
   opens_one m p (Ok l) e = record { load = cc (e.level, e.index, e.taken); line = refl }
@@ -47,9 +47,9 @@ module _ (o w : ℕ) where
 
   pub begins : (n m p : ℕ) (q : Result OpenLoad Refusal) → Begins n m p q → Opens m p q (begin_checks n m p)
   begins n m p q b =
-      two-checks (Opens m p q) Level Domain (ltb 12 m) (not (inside n m p))
-      (λ over. opens-none m p Level q (b.level (ltb-true 12 m over)))
-      (λ low out. opens-none m p Domain q (b.domain (ltb-false 12 m low) (λ l. true≢false (sym (inside_lies n m p l) ∙ not-true (inside n m p) out))))
+      two_checks (Opens m p q) Level Domain (ltb 12 m) (not (inside n m p))
+      (λ over. opens_none m p Level q (b.level (ltb-true 12 m over)))
+      (λ low out. opens_none m p Domain q (b.domain (ltb-false 12 m low) (λ l. true≢false (sym (inside_lies n m p l) ∙ not-true (inside n m p) out))))
       (λ low yes. opens_one m p q (b.begun (ltb-false 12 m low) (lies_inside n m p (not-false (inside n m p) yes))))
 
   -- what a value comes to where the checks find f
@@ -58,9 +58,9 @@ module _ (o w : ℕ) where
     pub values : unless f (set zs a.taken x) zs ≡ zs'
     pub line : after (silent o q) w ≡ On (checked f o None) w
 
-  fills-none : (a : OpenLoad) (x : ℤ) (zs zs' : List ℤ) (f : Fault) (q : Result OpenLoad RefusedLoad) → HandedBack a f q × (zs' ≡ zs) → Fills a x zs q zs' (Some f)
-  fills-none a x zs zs' f (Ok l) e = absurd e.0
-  fills-none a x zs zs' f (Err r) e =
+  fills_none : (a : OpenLoad) (x : ℤ) (zs zs' : List ℤ) (f : Fault) (q : Result OpenLoad RefusedLoad) → HandedBack a f q × (zs' ≡ zs) → Fills a x zs q zs' (Some f)
+  fills_none a x zs zs' f (Ok l) e = absurd e.0
+  fills_none a x zs zs' f (Err r) e =
       record {
         load = ap (λ (l : OpenLoad). opened l.level l.index l.taken) (sym e.0.load);
         values = sym e.1;
@@ -73,15 +73,15 @@ module _ (o w : ℕ) where
 
   pub fills : (a : OpenLoad) (x : ℤ) (zs zs' : List ℤ) (q : Result OpenLoad RefusedLoad) → Takes a x zs q zs' → Fills a x zs q zs' (value_checks a.level a.taken zs)
   fills a x zs zs' q t =
-      two-checks (Fills a x zs q zs') Over Buffer (leb (2 ^ a.level) a.taken) (leb (length zs) a.taken)
-      (λ full. fills-none a x zs zs' Over q (t.over (leb-true _ _ full)))
-      (λ room short. fills-none a x zs zs' Buffer q (t.buffer (leb-false _ _ room) (leb-true _ _ short)))
+      two_checks (Fills a x zs q zs') Over Buffer (leb (2 ^ a.level) a.taken) (leb (length zs) a.taken)
+      (λ full. fills_none a x zs zs' Over q (t.over (leb-true _ _ full)))
+      (λ room short. fills_none a x zs zs' Buffer q (t.buffer (leb-false _ _ room) (leb-true _ _ short)))
       (λ room long. fills_one a x zs zs' q (t.taken (leb-false _ _ room) (leb-false _ _ long)))
 
   -- a finish that the checks refuse keeps the load
-  pub finishes-load : (a : OpenLoad) (q : Result ℕ RefusedLoad) (f : Option Fault) (asked : Asked) (n : ℕ) → (v v' : View) (zs : List ℤ) → Finishes a v zs q v' → finish_reply q ≡ or_refused f asked (wrote n)
+  pub finishes_load : (a : OpenLoad) (q : Result ℕ RefusedLoad) (f : Option Fault) (asked : Asked) (n : ℕ) → (v v' : View) (zs : List ℤ) → Finishes a v zs q v' → finish_reply q ≡ or_refused f asked (wrote n)
       → unless f closed (opened a.level a.index a.taken) ≡ load_of (finished q)
-  finishes-load a (Ok k) None asked n v v' zs s e = refl
-  finishes-load a (Ok k) (Some f) asked n v v' zs s e = absurd (let z : ◌≡◌ {A = ℕ} 0 1 = cc in omega arith)
-  finishes-load a (Err r) None asked n v v' zs s e = absurd (let z : ◌≡◌ {A = ℕ} 0 1 = cc in omega arith)
-  finishes-load a (Err r) (Some f) asked n v v' zs s e = ap (λ (l : OpenLoad). opened l.level l.index l.taken) (sym s.0.load)
+  finishes_load a (Ok k) None asked n v v' zs s e = refl
+  finishes_load a (Ok k) (Some f) asked n v v' zs s e = absurd (let z : ◌≡◌ {A = ℕ} 0 1 = cc in omega arith)
+  finishes_load a (Err r) None asked n v v' zs s e = absurd (let z : ◌≡◌ {A = ℕ} 0 1 = cc in omega arith)
+  finishes_load a (Err r) (Some f) asked n v v' zs s e = ap (λ (l : OpenLoad). opened l.level l.index l.taken) (sym s.0.load)

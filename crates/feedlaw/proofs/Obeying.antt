@@ -35,8 +35,8 @@ use Rattle.agreement.proofs.Agreement.{leads_keeps, sound}
 use Rattle.agreement.proofs.Calls.{steps}
 use Rattle.feedlaw.specs.Turns.{Load, closed, desk, Turn, turned, turn, unless, checked, out_of_turn, verdict, call_turn, begin_turn, value_turn, finish_turn, give_up_turn, begin_checks, value_checks}
 use Rattle.feedlaw.specs.Law.{load_of, desk_of, Turns, ObeyedRight}
-use Rattle.feedlaw.proofs.Saying.{written-line, grown-line, finished-line}
-use Rattle.feedlaw.proofs.Loading.{Opens, Fills, begins, fills, finishes-load, one_check, two-checks}
+use Rattle.feedlaw.proofs.Saying.{written_line, grown_line, finished_line}
+use Rattle.feedlaw.proofs.Loading.{Opens, Fills, begins, fills, finishes_load, one_check, two_checks}
 
 module _ (F v : View) (h : History) (leads : Leads F h v) where
   holds : Holds v (tally F.size h).minutes
@@ -59,29 +59,29 @@ module _ (F v : View) (h : History) (leads : Leads F h v) where
   out : (o : ℕ) (r : Reply) → r ≡ Err (out_of_sequence o) → (k : ℕ) → after r k ≡ On (out_of_turn o) k
   out o r e k = ap (λ x. after x k) e
 
-  same-desk : (l l' : Load) (zs zs' : List ℤ) → l ≡ l' → zs ≡ zs' → desk (tally F.size h) l zs ≡ desk (tally F.size h) l' zs'
-  same-desk l l' zs zs' p q = ap₂ (desk (tally F.size h)) p q
+  same_desk : (l l' : Load) (zs zs' : List ℤ) → l ≡ l' → zs ≡ zs' → desk (tally F.size h) l zs ≡ desk (tally F.size h) l' zs'
+  same_desk l l' zs zs' p q = ap₂ (desk (tally F.size h)) p q
 
   module _ (zs zs' : List ℤ) (o : ℕ) (l' : Loading) (r : Reply) (w : View) where
-    begun-right : (l : Loading) (m p : ℕ) → Obeys v l zs (Begin m p) o l' r zs' w → Turns F (begin_turn (tally F.size h) (load_of l) zs m p o) l' r zs' w
-    begun-right (Open a) m p s =
-        still (begin_turn (tally F.size h) (load_of (Open a)) zs m p o) l' r zs' w s.2 (same-desk _ _ _ _ (ap load_of (sym s.0.0)) (sym s.1)) (out o r s.0.1)
-    begun-right Idle m p s =
+    begun_right : (l : Loading) (m p : ℕ) → Obeys v l zs (Begin m p) o l' r zs' w → Turns F (begin_turn (tally F.size h) (load_of l) zs m p o) l' r zs' w
+    begun_right (Open a) m p s =
+        still (begin_turn (tally F.size h) (load_of (Open a)) zs m p o) l' r zs' w s.2 (same_desk _ _ _ _ (ap load_of (sym s.0.0)) (sym s.1)) (out o r s.0.1)
+    begun_right Idle m p s =
         let b = s.0 in
         let u : (k : ℕ) → Opens o k m p b.0 (begin_checks (tally F.size h).size m p) = λ k. subst (λ n. Opens o k m p b.0 (begin_checks n m p)) size (begins o k v.size m p b.0 b.1) in
-        still (begin_turn (tally F.size h) (load_of Idle) zs m p o) l' r zs' w s.2 (same-desk _ _ _ _ ((u 0).load ∙ ap load_of (sym b.2)) (sym s.1)) (λ k. ap (λ x. after x k) b.3 ∙ (u k).line)
+        still (begin_turn (tally F.size h) (load_of Idle) zs m p o) l' r zs' w s.2 (same_desk _ _ _ _ ((u 0).load ∙ ap load_of (sym b.2)) (sym s.1)) (λ k. ap (λ x. after x k) b.3 ∙ (u k).line)
 
-    value-right : (l : Loading) (x : ℤ) → Obeys v l zs (Value x) o l' r zs' w → Turns F (value_turn (tally F.size h) (load_of l) zs x o) l' r zs' w
-    value-right Idle x s =
-        still (value_turn (tally F.size h) (load_of Idle) zs x o) l' r zs' w s.1 (same-desk _ _ _ _ (ap load_of (sym s.0.0)) (sym s.0.2)) (out o r s.0.1)
-    value-right (Open a) x s =
+    value_right : (l : Loading) (x : ℤ) → Obeys v l zs (Value x) o l' r zs' w → Turns F (value_turn (tally F.size h) (load_of l) zs x o) l' r zs' w
+    value_right Idle x s =
+        still (value_turn (tally F.size h) (load_of Idle) zs x o) l' r zs' w s.1 (same_desk _ _ _ _ (ap load_of (sym s.0.0)) (sym s.0.2)) (out o r s.0.1)
+    value_right (Open a) x s =
         let b = s.0 in
         let u : (k : ℕ) → Fills o k a x zs b.0 zs' (value_checks a.level a.taken zs) = λ k. fills o k a x zs zs' b.0 b.1 in
-        still (value_turn (tally F.size h) (load_of (Open a)) zs x o) l' r zs' w s.1 (same-desk _ _ _ _ ((u 0).load ∙ ap load_of (sym b.2)) (u 0).values) (λ k. ap (λ y. after y k) b.3 ∙ (u k).line)
+        still (value_turn (tally F.size h) (load_of (Open a)) zs x o) l' r zs' w s.1 (same_desk _ _ _ _ ((u 0).load ∙ ap load_of (sym b.2)) (u 0).values) (λ k. ap (λ y. after y k) b.3 ∙ (u k).line)
 
-    give_up-right : (l : Loading) → Obeys v l zs GiveUp o l' r zs' w → Turns F (give_up_turn (tally F.size h) (load_of l) zs o) l' r zs' w
-    give_up-right Idle s = still (give_up_turn (tally F.size h) (load_of Idle) zs o) l' r zs' w s.2 (same-desk _ _ _ _ (ap load_of (sym s.0.0)) (sym s.1)) (out o r s.0.1)
-    give_up-right (Open a) s = still (give_up_turn (tally F.size h) (load_of (Open a)) zs o) l' r zs' w s.2 (same-desk _ _ _ _ (ap load_of (sym s.0.0)) (sym s.1)) (λ k. ap (λ y. after y k) s.0.1)
+    give_up_right : (l : Loading) → Obeys v l zs GiveUp o l' r zs' w → Turns F (give_up_turn (tally F.size h) (load_of l) zs o) l' r zs' w
+    give_up_right Idle s = still (give_up_turn (tally F.size h) (load_of Idle) zs o) l' r zs' w s.2 (same_desk _ _ _ _ (ap load_of (sym s.0.0)) (sym s.1)) (out o r s.0.1)
+    give_up_right (Open a) s = still (give_up_turn (tally F.size h) (load_of (Open a)) zs o) l' r zs' w s.2 (same_desk _ _ _ _ (ap load_of (sym s.0.0)) (sym s.1)) (λ k. ap (λ y. after y k) s.0.1)
 
     -- a call of the warehouse, by its step
     called : (l : Loading) (call : Call) (a : Answer) (say : Line) → Step v call a w → l' ≡ l → zs' ≡ zs → ((k : ℕ) → after r k ≡ On (checked (refusal (recount F (tally F.size h)) call) o (Some say)) k)
@@ -99,18 +99,18 @@ module _ (F v : View) (h : History) (leads : Leads F h v) where
         let b = s.0.1 in
         let step = steps.add v w i x b.0 (leads_keeps leads).fits b.1 in
         called l (add i x) (written_reply b.0) (line.Added (W 0 (tally F.size h).size)) step s.1 s.2
-        (λ k. ap (λ y. after y k) (s.0.2 ∙ ap printed b.2) ∙ written-line o k (repeats (tally F.size h).size (add i x)) (W 0 (tally F.size h).size) line.Added b.0 (refusal (recount F (tally F.size h)) (add i x)) (right (add i x) (written_reply b.0) w step).answers)
+        (λ k. ap (λ y. after y k) (s.0.2 ∙ ap printed b.2) ∙ written_line o k (repeats (tally F.size h).size (add i x)) (W 0 (tally F.size h).size) line.Added b.0 (refusal (recount F (tally F.size h)) (add i x)) (right (add i x) (written_reply b.0) w step).answers)
 
-    grow-right : (l : Loading) → Obeys v l zs Grow o l' r zs' w → Turns F (turn F.store.bands F.store.room (desk_of F h l zs) Grow o) l' r zs' w
-    grow-right l s =
+    grow_right : (l : Loading) → Obeys v l zs Grow o l' r zs' w → Turns F (turn F.store.bands F.store.room (desk_of F h l zs) Grow o) l' r zs' w
+    grow_right l s =
         let b = s.0.1 in
         let step = steps.grow v w b.0 b.1 in
         called l grow (growth_reply b.0) (line.Grown (suc (tally F.size h).size)) step s.1 s.2
-        (λ k. ap (λ y. after y k) (s.0.2 ∙ ap printed b.2) ∙ grown-line o k (repeats (tally F.size h).size grow) (suc (tally F.size h).size) b.0 (refusal (recount F (tally F.size h)) grow) (right grow (growth_reply b.0) w step).answers)
+        (λ k. ap (λ y. after y k) (s.0.2 ∙ ap printed b.2) ∙ grown_line o k (repeats (tally F.size h).size grow) (suc (tally F.size h).size) b.0 (refusal (recount F (tally F.size h)) grow) (right grow (growth_reply b.0) w step).answers)
 
-    finish-right : (l : Loading) → Obeys v l zs Finish o l' r zs' w → Turns F (finish_turn F.store.bands F.store.room (tally F.size h) (load_of l) zs o) l' r zs' w
-    finish-right Idle s = still (finish_turn F.store.bands F.store.room (tally F.size h) (load_of Idle) zs o) l' r zs' w s.0.2 (same-desk _ _ _ _ (ap load_of (sym s.0.0)) (sym s.1)) (out o r s.0.1)
-    finish-right (Open a) s =
+    finish_right : (l : Loading) → Obeys v l zs Finish o l' r zs' w → Turns F (finish_turn F.store.bands F.store.room (tally F.size h) (load_of l) zs o) l' r zs' w
+    finish_right Idle s = still (finish_turn F.store.bands F.store.room (tally F.size h) (load_of Idle) zs o) l' r zs' w s.0.2 (same_desk _ _ _ _ (ap load_of (sym s.0.0)) (sym s.1)) (out o r s.0.1)
+    finish_right (Open a) s =
         let b = s.0 in
         let call : Call = load a.level a.index a.taken zs in
         let f : Option Fault = refusal (recount F (tally F.size h)) call in
@@ -121,14 +121,14 @@ module _ (F v : View) (h : History) (leads : Leads F h v) where
           leads = went leads step;
           desk =
               ap (λ x. desk x (unless f closed (load_of (Open a))) zs) (entered call (finish_reply b.0) w step)
-              ∙ ap₂ (desk (tally F.size (more h call (finish_reply b.0)))) (finishes-load o 0 a b.0 f _ _ v w zs b.1 answer ∙ ap load_of (sym b.2)) (sym s.1);
-          line = λ k. ap (λ y. after y k) b.3 ∙ finished-line o k _ _ b.0 f answer;
+              ∙ ap₂ (desk (tally F.size (more h call (finish_reply b.0)))) (finishes_load o 0 a b.0 f _ _ v w zs b.1 answer ∙ ap load_of (sym b.2)) (sym s.1);
+          line = λ k. ap (λ y. after y k) b.3 ∙ finished_line o k _ _ b.0 f answer;
         }
 
     -- a question: the warehouse's answer, and the line that it makes
     asked : (l : Loading) (say : Reading → Line) (q : Result Reading Refusal) (u : Option Line) → r ≡ printed (told say o q) → l' ≡ l → zs' ≡ zs → w ≡ v → ((k : ℕ) → after (printed (told say o q)) k ≡ On u k)
         → Turns F (turned (tally F.size h) (load_of l) zs u) l' r zs' w
-    asked l say q u e p z same line = still (turned (tally F.size h) (load_of l) zs u) l' r zs' w same (same-desk _ _ _ _ (ap load_of (sym p)) (sym z)) (λ k. ap (λ y. after y k) e ∙ line k)
+    asked l say q u e p z same line = still (turned (tally F.size h) (load_of l) zs u) l' r zs' w same (same_desk _ _ _ _ (ap load_of (sym p)) (sym z)) (λ k. ap (λ y. after y k) e ∙ line k)
 
   -- what a question prints, where its answer is known
   gives : (o : ℕ) (say : Reading → Line) (q : Result Reading Refusal) (x : ℤ) (c c' : ℕ) → q ≡ Ok (record { value = x; cells = c }) → c ≡ c' → (k : ℕ) → after (printed (told say o q)) k ≡ On (Some (say (record { value = x; cells = c' }))) k
@@ -138,9 +138,9 @@ module _ (F v : View) (h : History) (leads : Leads F h v) where
   refuses o say q e s k = ap (λ y. after (printed (told say o y)) k) s
 
   module _ (o : ℕ) where
-    point_line-right : (i k : ℕ) → after (printed (told point_line o (point_answer v i))) k ≡ On (checked (first (check (leb (2 ^ (tally F.size h).size) i) Domain ∷ [])) o (Some (line.Point ((tally F.size h).minutes i) (cells_read (tally F.size h).size 0)))) k
+    point_line_right : (i k : ℕ) → after (printed (told point_line o (point_answer v i))) k ≡ On (checked (first (check (leb (2 ^ (tally F.size h).size) i) Domain ∷ [])) o (Some (line.Point ((tally F.size h).minutes i) (cells_read (tally F.size h).size 0)))) k
     unfolding point_answer
-    point_line-right i k =
+    point_line_right i k =
         one_check (λ f. after (printed (told point_line o (point_answer v i))) k ≡ On (checked f o (Some (line.Point ((tally F.size h).minutes i) (cells_read (tally F.size h).size 0)))) k) Domain (leb (2 ^ (tally F.size h).size) i)
         (λ past.
         let d : leb (2 ^ v.size) i ≡ true = ap (λ n. leb (2 ^ n) i) size ∙ past in
@@ -149,10 +149,10 @@ module _ (F v : View) (h : History) (leads : Leads F h v) where
         let d : leb (2 ^ v.size) i ≡ false = ap (λ n. leb (2 ^ n) i) size ∙ within in
         gives o point_line (point_answer v i) _ _ _ ((reads_back v (tally F.size h).minutes holds).0 i (leb-false _ _ d)) (ap (λ n. cells_read n 0) size) k)
 
-    sum_line-right : (a b k : ℕ) → after (printed (told sum_line o (sum_answer v a b))) k ≡ On (checked (first (check (ltb b a) Range ∷ check (ltb (2 ^ (tally F.size h).size) b) Domain ∷ [])) o (Some (line.Sum (plain_sum (tally F.size h).minutes a (b - a)) (range_cells (tally F.size h).size a b)))) k
+    sum_line_right : (a b k : ℕ) → after (printed (told sum_line o (sum_answer v a b))) k ≡ On (checked (first (check (ltb b a) Range ∷ check (ltb (2 ^ (tally F.size h).size) b) Domain ∷ [])) o (Some (line.Sum (plain_sum (tally F.size h).minutes a (b - a)) (range_cells (tally F.size h).size a b)))) k
     unfolding sum_answer
-    sum_line-right a b k =
-        two-checks (λ f. after (printed (told sum_line o (sum_answer v a b))) k ≡ On (checked f o (Some (line.Sum (plain_sum (tally F.size h).minutes a (b - a)) (range_cells (tally F.size h).size a b)))) k) Range Domain (ltb b a) (ltb (2 ^ (tally F.size h).size) b)
+    sum_line_right a b k =
+        two_checks (λ f. after (printed (told sum_line o (sum_answer v a b))) k ≡ On (checked f o (Some (line.Sum (plain_sum (tally F.size h).minutes a (b - a)) (range_cells (tally F.size h).size a b)))) k) Range Domain (ltb b a) (ltb (2 ^ (tally F.size h).size) b)
         (λ back. refuses o sum_line (sum_answer v a b) (record { fault = Range; asked = Minutes a b }) (ap (ask.refused (Minutes a b)) (cond-true (ltb b a) (Err Range) _ back)) k)
         (λ front past.
         let d : ltb (2 ^ v.size) b ≡ true = ap (λ n. ltb (2 ^ n) b) size ∙ past in
@@ -161,10 +161,10 @@ module _ (F v : View) (h : History) (leads : Leads F h v) where
         let d : ltb (2 ^ v.size) b ≡ false = ap (λ n. ltb (2 ^ n) b) size ∙ within in
         gives o sum_line (sum_answer v a b) _ _ _ ((reads_back v (tally F.size h).minutes holds).1 a b (ltb-false _ _ front) (ltb-false _ _ d)) (ap (λ n. range_cells n a b) size) k)
 
-    mean_line-right : (a b k : ℕ) → after (printed (told mean_line o (mean_answer v a b))) k ≡ On (checked (first (check (leb b a) Range ∷ check (ltb (2 ^ (tally F.size h).size) b) Domain ∷ [])) o (Some (line.Mean (floor (plain_sum (tally F.size h).minutes a (b - a)) (b - a)) (range_cells (tally F.size h).size a b)))) k
+    mean_line_right : (a b k : ℕ) → after (printed (told mean_line o (mean_answer v a b))) k ≡ On (checked (first (check (leb b a) Range ∷ check (ltb (2 ^ (tally F.size h).size) b) Domain ∷ [])) o (Some (line.Mean (floor (plain_sum (tally F.size h).minutes a (b - a)) (b - a)) (range_cells (tally F.size h).size a b)))) k
     unfolding mean_answer
-    mean_line-right a b k =
-        two-checks (λ f. after (printed (told mean_line o (mean_answer v a b))) k ≡ On (checked f o (Some (line.Mean (floor (plain_sum (tally F.size h).minutes a (b - a)) (b - a)) (range_cells (tally F.size h).size a b)))) k) Range Domain (leb b a) (ltb (2 ^ (tally F.size h).size) b)
+    mean_line_right a b k =
+        two_checks (λ f. after (printed (told mean_line o (mean_answer v a b))) k ≡ On (checked f o (Some (line.Mean (floor (plain_sum (tally F.size h).minutes a (b - a)) (b - a)) (range_cells (tally F.size h).size a b)))) k) Range Domain (leb b a) (ltb (2 ^ (tally F.size h).size) b)
         (λ none. refuses o mean_line (mean_answer v a b) (record { fault = Range; asked = Minutes a b }) (ap (ask.refused (Minutes a b)) (cond-true (leb b a) (Err Range) _ none)) k)
         (λ some past.
         let d : ltb (2 ^ v.size) b ≡ true = ap (λ n. ltb (2 ^ n) b) size ∙ past in
@@ -178,12 +178,12 @@ module _ (F v : View) (h : History) (leads : Leads F h v) where
         gives o mean_line (mean_answer v a b) _ _ _ ((reads_back v (tally F.size h).minutes holds).2 a b (leb-false _ _ some) (ltb-false _ _ d)) (ap (λ n. range_cells n a b) size) k)
 
 pub obeyed_right : ObeyedRight
-obeyed_right F v w h l l' zs zs' (Begin m p) o r leads s = begun-right F v h leads zs zs' o l' r w l m p s
-obeyed_right F v w h l l' zs zs' (Value x) o r leads s = value-right F v h leads zs zs' o l' r w l x s
-obeyed_right F v w h l l' zs zs' Finish o r leads s = finish-right F v h leads zs zs' o l' r w l s
-obeyed_right F v w h l l' zs zs' GiveUp o r leads s = give_up-right F v h leads zs zs' o l' r w l s
+obeyed_right F v w h l l' zs zs' (Begin m p) o r leads s = begun_right F v h leads zs zs' o l' r w l m p s
+obeyed_right F v w h l l' zs zs' (Value x) o r leads s = value_right F v h leads zs zs' o l' r w l x s
+obeyed_right F v w h l l' zs zs' Finish o r leads s = finish_right F v h leads zs zs' o l' r w l s
+obeyed_right F v w h l l' zs zs' GiveUp o r leads s = give_up_right F v h leads zs zs' o l' r w l s
 obeyed_right F v w h l l' zs zs' (Add i x) o r leads s = add_right F v h leads zs zs' o l' r w l i x s
-obeyed_right F v w h l l' zs zs' Grow o r leads s = grow-right F v h leads zs zs' o l' r w l s
-obeyed_right F v w h l l' zs zs' (Point i) o r leads s = asked F v h leads zs zs' o l' r w l point_line (point_answer v i) _ s.0 s.1 s.2 s.3 (point_line-right F v h leads o i)
-obeyed_right F v w h l l' zs zs' (Sum a b) o r leads s = asked F v h leads zs zs' o l' r w l sum_line (sum_answer v a b) _ s.0 s.1 s.2 s.3 (sum_line-right F v h leads o a b)
-obeyed_right F v w h l l' zs zs' (Mean a b) o r leads s = asked F v h leads zs zs' o l' r w l mean_line (mean_answer v a b) _ s.0 s.1 s.2 s.3 (mean_line-right F v h leads o a b)
+obeyed_right F v w h l l' zs zs' Grow o r leads s = grow_right F v h leads zs zs' o l' r w l s
+obeyed_right F v w h l l' zs zs' (Point i) o r leads s = asked F v h leads zs zs' o l' r w l point_line (point_answer v i) _ s.0 s.1 s.2 s.3 (point_line_right F v h leads o i)
+obeyed_right F v w h l l' zs zs' (Sum a b) o r leads s = asked F v h leads zs zs' o l' r w l sum_line (sum_answer v a b) _ s.0 s.1 s.2 s.3 (sum_line_right F v h leads o a b)
+obeyed_right F v w h l l' zs zs' (Mean a b) o r leads s = asked F v h leads zs zs' o l' r w l mean_line (mean_answer v a b) _ s.0 s.1 s.2 s.3 (mean_line_right F v h leads o a b)

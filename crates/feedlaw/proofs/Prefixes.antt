@@ -35,8 +35,8 @@ module _ (bs more : List ℕ) where
       (ap (λ (x : ℕ). x * 2 ^ 8) (get_or_append_left bs more 0 (i + 2) (omega arith))))
       (get_or_append_left bs more 0 (i + 3) h)
 
-  as-more : (r : Row) → Own r → ((length bs < 9) × (decoded_as r bs ≡ Err Cut)) ⊎ (decoded_as r (bs ++ more) ≡ with_more more (decoded_as r bs))
-  as-more r own =
+  as_more : (r : Row) → Own r → ((length bs < 9) × (decoded_as r bs ≡ Err Cut)) ⊎ (decoded_as r (bs ++ more) ≡ with_more more (decoded_as r bs))
+  as_more r own =
       ⊎_elim
       (λ (lt : length bs < 1 + r.width). inl (omega (arith, own.few), cond-true (ltb (length bs) (1 + r.width)) (Err Cut) _ (lt-ltb _ _ lt)))
       (λ (le : 1 + r.width ≤ length bs).
@@ -48,19 +48,19 @@ module _ (bs more : List ℕ) where
       ∙ sym (ap (with_more more) whole)))
       (cases_lt (length bs) (1 + r.width))
 
-  by-more : (rs : List Row) → AllOwn rs → 0 < length bs → ((length bs < 9) × (decoded_by rs bs ≡ Err Cut)) ⊎ (decoded_by rs (bs ++ more) ≡ with_more more (decoded_by rs bs))
-  by-more [] own h = inr refl
-  by-more (r ∷ rs) own h =
+  by_more : (rs : List Row) → AllOwn rs → 0 < length bs → ((length bs < 9) × (decoded_by rs bs ≡ Err Cut)) ⊎ (decoded_by rs (bs ++ more) ≡ with_more more (decoded_by rs bs))
+  by_more [] own h = inr refl
+  by_more (r ∷ rs) own h =
       let same : get_or (bs ++ more) 0 0 ≡ get_or bs 0 0 = get_or_append_left bs more 0 0 h in
       ⊎_elim
       (λ (q : get_or bs 0 0 ≡ r.letter).
       let here : decoded_by (r ∷ rs) bs ≡ decoded_as r bs = cond-true (eqb (get_or bs 0 0) r.letter) _ _ (eq-eqb _ _ q) in
       let there : decoded_by (r ∷ rs) (bs ++ more) ≡ decoded_as r (bs ++ more) = cond-true (eqb (get_or (bs ++ more) 0 0) r.letter) _ _ (eq-eqb _ _ (same ∙ q)) in
-      ⊎_elim (λ (u : (length bs < 9) × (decoded_as r bs ≡ Err Cut)). inl (u.0, here ∙ u.1)) (λ u. inr (there ∙ u ∙ sym (ap (with_more more) here))) (as-more r own.0))
+      ⊎_elim (λ (u : (length bs < 9) × (decoded_as r bs ≡ Err Cut)). inl (u.0, here ∙ u.1)) (λ u. inr (there ∙ u ∙ sym (ap (with_more more) here))) (as_more r own.0))
       (λ (ne : get_or bs 0 0 ≡ r.letter → ⊥).
       let here : decoded_by (r ∷ rs) bs ≡ decoded_by rs bs = cond-false (eqb (get_or bs 0 0) r.letter) _ _ (ne_eqb _ _ ne) in
       let there : decoded_by (r ∷ rs) (bs ++ more) ≡ decoded_by rs (bs ++ more) = cond-false (eqb (get_or (bs ++ more) 0 0) r.letter) _ _ (ne_eqb _ _ (λ e. ne (sym same ∙ e))) in
-      ⊎_elim (λ (u : (length bs < 9) × (decoded_by rs bs ≡ Err Cut)). inl (u.0, here ∙ u.1)) (λ u. inr (there ∙ u ∙ sym (ap (with_more more) here))) (by-more rs own.1 h))
+      ⊎_elim (λ (u : (length bs < 9) × (decoded_by rs bs ≡ Err Cut)). inl (u.0, here ∙ u.1)) (λ u. inr (there ∙ u ∙ sym (ap (with_more more) here))) (by_more rs own.1 h))
       (cases_eq (get_or bs 0 0) r.letter)
 
 all_own : AllOwn commands
@@ -98,4 +98,4 @@ pub decoded_more : (bs more : List ℕ) → 0 < length bs → ((length bs < 9) �
 decoded_more bs more h =
     let here : decoded bs ≡ decoded_by commands bs = cond-false (eqb (length bs) 0) (Err Cut) (decoded_by commands bs) (ne_eqb _ _ (λ e. omega arith)) in
     let there : decoded (bs ++ more) ≡ decoded_by commands (bs ++ more) = cond-false (eqb (length (bs ++ more)) 0) (Err Cut) (decoded_by commands (bs ++ more)) (ne_eqb _ _ (λ e. omega (arith, length-append bs more))) in
-    ⊎_elim (λ (u : (length bs < 9) × (decoded_by commands bs ≡ Err Cut)). inl (u.0, here ∙ u.1)) (λ u. inr (there ∙ u ∙ sym (ap (with_more more) here))) (by-more bs more commands all_own h)
+    ⊎_elim (λ (u : (length bs < 9) × (decoded_by commands bs ≡ Err Cut)). inl (u.0, here ∙ u.1)) (λ u. inr (there ∙ u ∙ sym (ap (with_more more) here))) (by_more bs more commands all_own h)

@@ -12,11 +12,11 @@ use Rattle.feedlaw.specs.Lines.{ending, shown, lines_by, lines, told, text}
 
 module _ (T : ℕ) (room : ℤ) where
   -- what comes after a command may be told in either of two ways that agree on shorter bytes
-  by-same : (d : Desk) (o w : ℕ) (bs : List ℕ) (go go' : Desk → ℕ → List ℕ → List Line) (r : Result (Command × List ℕ) DecodeFault) → decoded bs ≡ r
+  by_same : (d : Desk) (o w : ℕ) (bs : List ℕ) (go go' : Desk → ℕ → List ℕ → List Line) (r : Result (Command × List ℕ) DecodeFault) → decoded bs ≡ r
       → ((e : Desk) (p : ℕ) (rest : List ℕ) → length rest < length bs → go e p rest ≡ go' e p rest)
       → lines_by T room d o w go r ≡ lines_by T room d o w go' r
-  by-same d o w bs go go' (Err f) e s = refl
-  by-same d o w bs go go' (Ok (c, rest)) e s = ap (λ x. shown (turn T room d c o).line ++ x) (s (turn T room d c o).desk (o + (w - length rest)) rest (shorter bs rest c e))
+  by_same d o w bs go go' (Err f) e s = refl
+  by_same d o w bs go go' (Ok (c, rest)) e s = ap (λ x. shown (turn T room d c o).line ++ x) (s (turn T room d c o).desk (o + (w - length rest)) rest (shorter bs rest c e))
 
   -- more turns than bytes change nothing
   enough : (f g : ℕ) (d : Desk) (o : ℕ) (bs : List ℕ) → length bs ≤ f → length bs ≤ g → lines T room f d o bs ≡ lines T room g d o bs
@@ -28,23 +28,23 @@ module _ (T : ℕ) (room : ℤ) where
   enough (suc f) zero d o (b ∷ bs) p q = absurd (omega arith)
   enough (suc f) (suc g) d o [] p q = refl
   enough (suc f) (suc g) d o (b ∷ bs) p q =
-      by-same d o (length (b ∷ bs)) (b ∷ bs) (lines T room f) (lines T room g) (decoded (b ∷ bs)) refl (λ e i rest h. enough f g e i rest (omega arith) (omega arith))
+      by_same d o (length (b ∷ bs)) (b ∷ bs) (lines T room f) (lines T room g) (decoded (b ∷ bs)) refl (λ e i rest h. enough f g e i rest (omega arith) (omega arith))
 
   pub told_none : (d : Desk) (o : ℕ) → told T room d o [] ≡ ending d.load
   unfolding lines
   told_none d o = refl
 
-  told-by : (d : Desk) (o : ℕ) (bs : List ℕ) → 0 < length bs → told T room d o bs ≡ lines_by T room d o (length bs) (told T room) (decoded bs)
+  told_by : (d : Desk) (o : ℕ) (bs : List ℕ) → 0 < length bs → told T room d o bs ≡ lines_by T room d o (length bs) (told T room) (decoded bs)
   unfolding lines
-  told-by d o [] h = absurd (omega arith)
-  told-by d o (b ∷ bs) h = by-same d o (length (b ∷ bs)) (b ∷ bs) (lines T room (length bs)) (told T room) (decoded (b ∷ bs)) refl (λ e i rest l. enough (length bs) (length rest) e i rest (omega arith) (omega arith))
+  told_by d o [] h = absurd (omega arith)
+  told_by d o (b ∷ bs) h = by_same d o (length (b ∷ bs)) (b ∷ bs) (lines T room (length bs)) (told T room) (decoded (b ∷ bs)) refl (λ e i rest l. enough (length bs) (length rest) e i rest (omega arith) (omega arith))
 
-  pub told-turn : (d : Desk) (o : ℕ) (bs rest : List ℕ) (c : Command) → 0 < length bs → decoded bs ≡ Ok (c, rest)
+  pub told_turn : (d : Desk) (o : ℕ) (bs rest : List ℕ) (c : Command) → 0 < length bs → decoded bs ≡ Ok (c, rest)
       → told T room d o bs ≡ shown (turn T room d c o).line ++ told T room (turn T room d c o).desk (o + (length bs - length rest)) rest
-  told-turn d o bs rest c h e = told-by d o bs h ∙ ap (lines_by T room d o (length bs) (told T room)) e
+  told_turn d o bs rest c h e = told_by d o bs h ∙ ap (lines_by T room d o (length bs) (told T room)) e
 
-  pub told-stop : (d : Desk) (o : ℕ) (bs : List ℕ) (f : DecodeFault) → 0 < length bs → decoded bs ≡ Err f → told T room d o bs ≡ line.Refused (decode_fault_number f) o ∷ ending d.load
-  told-stop d o bs f h e = told-by d o bs h ∙ ap (lines_by T room d o (length bs) (told T room)) e
+  pub told_stop : (d : Desk) (o : ℕ) (bs : List ℕ) (f : DecodeFault) → 0 < length bs → decoded bs ≡ Err f → told T room d o bs ≡ line.Refused (decode_fault_number f) o ∷ ending d.load
+  told_stop d o bs f h e = told_by d o bs h ∙ ap (lines_by T room d o (length bs) (told T room)) e
 
 pub text_append : (ls ms : List Line) → text (ls ++ ms) ≡ text ls ++ text ms
 text_append [] ms = refl

@@ -12,7 +12,7 @@ use Rattle.haar.specs.Load.{Touched}
 use Rattle.haar.specs.Count.{touched_coefficients}
 use Rattle.haar.specs.Cells.{pick, haar_cells}
 use Rattle.haar.proofs.Numbers.{same_pow, one_coefficient, sixteen}
-use Rattle.haar.proofs.Count.{coefficients-mem, coefficients-has}
+use Rattle.haar.proofs.Count.{coefficients_mem, coefficients_has}
 
 -- the whole warehouse touches every coefficient inside it
 all_touched : (n : ℕ) (s : Coefficient) → Inside n s → Touched n n 0 s
@@ -50,7 +50,7 @@ module _ (T n : ℕ) (f : ℕ → ℤ) (some-band : 1 ≤ T) (fits : n ≤ 4 * T
   unfolding haar_cells
   cells_are =
       record {
-        held = λ s i. picked (touched_coefficients n n 0) mem s i (coefficients-has T n n 0 some-band fits (omega arith) here s i (all_touched n s i));
+        held = λ s i. picked (touched_coefficients n n 0) mem s i (coefficients_has T n n 0 some-band fits (omega arith) here s i (all_touched n s i));
         empty = λ c b none. unpicked (touched_coefficients n n 0) c (λ s h. none s (mem s h));
       }
     where
@@ -58,4 +58,4 @@ module _ (T n : ℕ) (f : ℕ → ℤ) (some-band : 1 ≤ T) (fits : n ≤ 4 * T
       here = pow_pos (n - n)
 
       mem : (s : Coefficient) → Memᴰ s (touched_coefficients n n 0) → Inside n s
-      mem s h = (coefficients-mem T n n 0 some-band fits (omega arith) here s h).0
+      mem s h = (coefficients_mem T n n 0 some-band fits (omega arith) here s h).0

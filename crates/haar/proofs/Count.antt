@@ -38,34 +38,34 @@ sizes m at zero = 0
 sizes m at (suc t) = sizes m at t + 2 ^ (m - at t)
 
 module _ (m p : ℕ) (coefficient : ℕ → ℕ → Coefficient) (at : ℕ → ℕ) (tell : (t k t' k' : ℕ) → coefficient t k ≡ coefficient t' k' → (t ≡ t') × (k ≡ k')) where
-  family-mem : (b : ℕ) (s : Coefficient) → Memᴰ s (family m p coefficient at b) → (t : ℕ) × (k : ℕ) × (t < b) × (k / 2 ^ (m - at t) ≡ p / 2 ^ (at t - m)) × (coefficient t k ≡ s)
-  family-mem zero s h = absurd (Memᴰ.not-nil h)
-  family-mem (suc b) s h =
+  family_mem : (b : ℕ) (s : Coefficient) → Memᴰ s (family m p coefficient at b) → (t : ℕ) × (k : ℕ) × (t < b) × (k / 2 ^ (m - at t) ≡ p / 2 ^ (at t - m)) × (coefficient t k ≡ s)
+  family_mem zero s h = absurd (Memᴰ.not-nil h)
+  family_mem (suc b) s h =
       ⊎_elim (λ h. let (k, g, e) = Memᴰ.of_map (coefficient b) _ h in (b, k, omega arith, indices_mem m p (at b) k g, e))
-      (λ h. let (t, k, l, g, e) = family-mem b s h in (t, k, omega arith, g, e))
+      (λ h. let (t, k, l, g, e) = family_mem b s h in (t, k, omega arith, g, e))
       (Memᴰ.append_cases (map (coefficient b) (indices m p (at b))) h)
 
-  family-has : (b t k : ℕ) → t < b → k / 2 ^ (m - at t) ≡ p / 2 ^ (at t - m) → Memᴰ (coefficient t k) (family m p coefficient at b)
-  family-has zero t k l e = absurd (omega arith)
-  family-has (suc b) t k l e =
-      ⊎_elim (λ lt. Memᴰ.append_right _ (family-has b t k lt e))
+  family_has : (b t k : ℕ) → t < b → k / 2 ^ (m - at t) ≡ p / 2 ^ (at t - m) → Memᴰ (coefficient t k) (family m p coefficient at b)
+  family_has zero t k l e = absurd (omega arith)
+  family_has (suc b) t k l e =
+      ⊎_elim (λ lt. Memᴰ.append_right _ (family_has b t k lt e))
       (λ le.
       let q : t ≡ b = omega arith in
       Memᴰ.cast (ap (λ x. coefficient x k) q) (Memᴰ.append_left _ (Memᴰ.map (coefficient b) (indices_has m p (at b) k (rw (← q) e)))))
       (cases_lt t b)
 
-  family-apart : (b : ℕ) → Apart (family m p coefficient at b)
-  family-apart zero = tt
-  family-apart (suc b) =
-      append_apart _ _ (map_apart (coefficient b) _ (λ k k' _ _ e. (tell b k b k' e).1) (counting_apart _ _)) (family-apart b)
+  family_apart : (b : ℕ) → Apart (family m p coefficient at b)
+  family_apart zero = tt
+  family_apart (suc b) =
+      append_apart _ _ (map_apart (coefficient b) _ (λ k k' _ _ e. (tell b k b k' e).1) (counting_apart _ _)) (family_apart b)
       (λ s h g.
       let (k, _, e) = Memᴰ.of_map (coefficient b) _ h in
-      let (t, k', l, _, e') = family-mem b s g in
+      let (t, k', l, _, e') = family_mem b s g in
       omega (arith, tell b k t k' (e ∙ sym e')))
 
-  family-length : (b : ℕ) → length (family m p coefficient at b) ≡ sizes m at b
-  family-length zero = refl
-  family-length (suc b) = rw (length-append, length-map, length-range_with_len, family-length b) (omega arith)
+  family_length : (b : ℕ) → length (family m p coefficient at b) ≡ sizes m at b
+  family_length zero = refl
+  family_length (suc b) = rw (length-append, length-map, length-range_with_len, family_length b) (omega arith)
 
 -- the differences and the tiles are two such families
 diff_at : ℕ → ℕ → Coefficient
@@ -103,45 +103,45 @@ whole_inside n t k l h = (
 )
 
 module _ (T n m p : ℕ) (some-band : 1 ≤ T) (fits : n ≤ 4 * T) (small : m ≤ n) (here : p < 2 ^ (n - m)) where
-  pub coefficients-mem : (s : Coefficient) → Memᴰ s (touched_coefficients n m p) → Inside n s × Touched n m p s
+  pub coefficients_mem : (s : Coefficient) → Memᴰ s (touched_coefficients n m p) → Inside n s × Touched n m p s
   unfolding touched_coefficients
-  coefficients-mem s h =
+  coefficients_mem s h =
       ⊎_elim
       (λ h.
-      let (t, k, l, e, q) = family-mem m p TileSum (λ t. min (4 * t + 4) n) tell_whole (bands_in_use n) s h in
+      let (t, k, l, e, q) = family_mem m p TileSum (λ t. min (4 * t + 4) n) tell_whole (bands_in_use n) s h in
       subst (λ s. Inside n s × Touched n m p s) q (whole_inside n t k l (index_inside n m p _ k small (omega arith) here e), e))
       (λ h.
-      let (t, k, l, e, q) = family-mem m p (λ t. Difference (suc t)) suc tell_diff n s h in
+      let (t, k, l, e, q) = family_mem m p (λ t. Difference (suc t)) suc tell_diff n s h in
       subst (λ s. Inside n s × Touched n m p s) q ((omega arith, l, index_inside n m p _ k small l here e), e))
       (Memᴰ.append_cases _ h)
 
-  pub coefficients-has : (s : Coefficient) → Inside n s → Touched n m p s → Memᴰ s (touched_coefficients n m p)
+  pub coefficients_has : (s : Coefficient) → Inside n s → Touched n m p s → Memᴰ s (touched_coefficients n m p)
   unfolding touched_coefficients
-  coefficients-has (TileSum t k) i e = Memᴰ.append_left _ (family-has m p TileSum (λ t. min (4 * t + 4) n) tell_whole (bands_in_use n) t k (omega arith) e)
-  coefficients-has (Difference zero k) i e = absurd (omega arith)
-  coefficients-has (Difference (suc j) k) i e = Memᴰ.append_right _ (family-has m p (λ t. Difference (suc t)) suc tell_diff n j k (omega arith) e)
+  coefficients_has (TileSum t k) i e = Memᴰ.append_left _ (family_has m p TileSum (λ t. min (4 * t + 4) n) tell_whole (bands_in_use n) t k (omega arith) e)
+  coefficients_has (Difference zero k) i e = absurd (omega arith)
+  coefficients_has (Difference (suc j) k) i e = Memᴰ.append_right _ (family_has m p (λ t. Difference (suc t)) suc tell_diff n j k (omega arith) e)
 
-  coefficients-apart : Apart (touched_coefficients n m p)
+  coefficients_apart : Apart (touched_coefficients n m p)
   unfolding touched_coefficients
-  coefficients-apart =
-      append_apart _ _ (family-apart m p TileSum (λ t. min (4 * t + 4) n) tell_whole (bands_in_use n)) (family-apart m p (λ t. Difference (suc t)) suc tell_diff n)
+  coefficients_apart =
+      append_apart _ _ (family_apart m p TileSum (λ t. min (4 * t + 4) n) tell_whole (bands_in_use n)) (family_apart m p (λ t. Difference (suc t)) suc tell_diff n)
       (λ s h g.
-      let (t, k, _, _, e) = family-mem m p TileSum (λ t. min (4 * t + 4) n) tell_whole (bands_in_use n) s h in
-      let (t', k', _, _, e') = family-mem m p (λ t. Difference (suc t)) suc tell_diff n s g in
+      let (t, k, _, _, e) = family_mem m p TileSum (λ t. min (4 * t + 4) n) tell_whole (bands_in_use n) s h in
+      let (t', k', _, _, e') = family_mem m p (λ t. Difference (suc t)) suc tell_diff n s g in
       let z : ◌≡◌ {A = ℕ} 0 1 = cc (e, e') in
       omega arith)
 
-  coefficients-length : length (touched_coefficients n m p) ≡ W m n
+  coefficients_length : length (touched_coefficients n m p) ≡ W m n
   unfolding touched_coefficients
-  coefficients-length =
-      rw (length-append, family-length m p TileSum (λ t. min (4 * t + 4) n) tell_whole (bands_in_use n), family-length m p (λ t. Difference (suc t)) suc tell_diff n, sizes_wholes n m (bands_in_use n) small)
+  coefficients_length =
+      rw (length-append, family_length m p TileSum (λ t. min (4 * t + 4) n) tell_whole (bands_in_use n), family_length m p (λ t. Difference (suc t)) suc tell_diff n, sizes_wholes n m (bands_in_use n) small)
       (omega (arith, sizes_diffs m n, same_pow (m - n) 0 (omega arith), pow_pos m))
 
   pub touches : Touches T n m p (map (cell_number T) (touched_coefficients n m p))
   touches =
       record {
-        apart = map_apart (cell_number T) (touched_coefficients n m p) (λ s s' h h' e. one_coefficient T n s s' some-band fits (coefficients-mem s h).0 (coefficients-mem s' h').0 e) coefficients-apart;
-        touched = λ c h. let (s, g, e) = Memᴰ.of_map (cell_number T) (touched_coefficients n m p) h in (s, (coefficients-mem s g).0, (coefficients-mem s g).1, e);
-        complete = λ s i t. Memᴰ.map (cell_number T) (coefficients-has s i t);
-        many = length-map (touched_coefficients n m p) (cell_number T) ∙ coefficients-length;
+        apart = map_apart (cell_number T) (touched_coefficients n m p) (λ s s' h h' e. one_coefficient T n s s' some-band fits (coefficients_mem s h).0 (coefficients_mem s' h').0 e) coefficients_apart;
+        touched = λ c h. let (s, g, e) = Memᴰ.of_map (cell_number T) (touched_coefficients n m p) h in (s, (coefficients_mem s g).0, (coefficients_mem s g).1, e);
+        complete = λ s i t. Memᴰ.map (cell_number T) (coefficients_has s i t);
+        many = length-map (touched_coefficients n m p) (cell_number T) ∙ coefficients_length;
       }

@@ -75,16 +75,16 @@ module _ (T n : ℕ) (f cells : ℕ → ℤ) (room : n < 4 * T) (blank : Blank n
   all_new : S f n 1 ≡ pos 0
   all_new = total_zero f (1 * 2 ^ n) (2 ^ n) (λ i lo _. blank i (omega arith))
 
-  top-value : D f (suc n) 0 ≡ S f n 0
-  top-value = omega (arith, ints, D_suc f n 0, all_new)
+  top_value : D f (suc n) 0 ≡ S f n 0
+  top_value = omega (arith, ints, D_suc f n 0, all_new)
 
-  tile-value : Fills n → value (suc n) f (TileSum (n / 4) 0) ≡ S f n 0
-  tile-value h =
+  tile_value : Fills n → value (suc n) f (TileSum (n / 4) 0) ≡ S f n 0
+  tile_value h =
       let e : min (4 * (n / 4) + 4) (suc n) ≡ suc n = omega arith in
       value_whole (suc n) f (n / 4) 0 (tile_inside h) ∙ ap (λ x. S f x 0) e ∙ omega (arith, ints, halves f n 0, all_new)
 
-  new-tile-or-not : (s : Coefficient) → (Fills n × (s ≡ TileSum (n / 4) 0)) ⊎ (Fills n × (s ≡ TileSum (n / 4) 0) → ⊥)
-  new-tile-or-not s = grind (arith, cases_lt 0 n, cases_eq (n % 4) 0, same_coefficient s (TileSum (n / 4) 0))
+  new_tile_or_not : (s : Coefficient) → (Fills n × (s ≡ TileSum (n / 4) 0)) ⊎ (Fills n × (s ≡ TileSum (n / 4) 0) → ⊥)
+  new_tile_or_not s = grind (arith, cases_lt 0 n, cases_eq (n % 4) 0, same_coefficient s (TileSum (n / 4) 0))
 
   pub growth : (y : ℕ → ℤ) → Grown T n (S f n 0) cells y → HaarCells T (suc n) f y
   growth y grown = record { held = held; empty = empty }
@@ -97,11 +97,11 @@ module _ (T n : ℕ) (f cells : ℕ → ℤ) (room : n < 4 * T) (blank : Blank n
 
       held : (s : Coefficient) → Inside (suc n) s → Holds s
       held s i =
-          ⊎_elim (λ e. subst Holds (sym e) (grown.top ∙ sym top-value))
+          ⊎_elim (λ e. subst Holds (sym e) (grown.top ∙ sym top_value))
           (λ a.
-          ⊎_elim (λ h. subst Holds (sym h.1) (grown.tile h.0 ∙ sym (tile-value h.0)))
+          ⊎_elim (λ h. subst Holds (sym h.1) (grown.tile h.0 ∙ sym (tile_value h.0)))
           (λ b. grown.kept (cell_number T s) (inside_below T (suc n) s (omega arith) room i) (λ e. a (coefficient s _ i top_inside e)) (λ h e. b (h, coefficient s _ i (tile_inside h) e)) ∙ kept s i a (λ h e. b (h, e)))
-          (new-tile-or-not s))
+          (new_tile_or_not s))
           (same_coefficient s (Difference (suc n) 0))
 
       empty : (c : ℕ) → c < cell_count T → ((s : Coefficient) → Inside (suc n) s → cell_number T s ≡ c → ⊥) → y c ≡ pos 0

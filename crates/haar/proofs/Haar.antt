@@ -62,8 +62,8 @@ module _ (T n : ℕ) (f : ℕ → ℤ) (some-band : 1 ≤ T) (fits : n ≤ 4 * T
   cell c (inl b) = pick c (coefficient_of T n c fits b)
   cell c (inr past) = pos 0
 
-  pub some-haar : (x : ℕ → ℤ) × HaarCells T n f x
-  some-haar = ((λ c. cell c (cases_lt c (cell_count T))), record { held = λ s i. held s i (cases_lt (cell_number T s) (cell_count T)); empty = λ c b none. empty c none (cases_lt c (cell_count T)) })
+  pub some_haar : (x : ℕ → ℤ) × HaarCells T n f x
+  some_haar = ((λ c. cell c (cases_lt c (cell_count T))), record { held = λ s i. held s i (cases_lt (cell_number T s) (cell_count T)); empty = λ c b none. empty c none (cases_lt c (cell_count T)) })
     where
       picked : (s : Coefficient) → Inside n s → (q : Answer (cell_number T s)) → pick (cell_number T s) q ≡ value n f s
       picked s i (inl (s', i', e)) = ap (value n f) (one_coefficient T n s' s some-band fits i' i e)

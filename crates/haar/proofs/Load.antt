@@ -12,7 +12,7 @@ use Rattle.haar.specs.Load.{Chunk, level, index, Touched, Loaded}
 use Rattle.haar.specs.Count.{bands_in_use}
 use Rattle.haar.proofs.Sums.{total_zero, halves, D_suc}
 use Rattle.haar.proofs.Numbers.{same_pow, one_coefficient, inside_below}
-use Rattle.haar.proofs.Haar.{value_plus, some-haar, coefficient_of}
+use Rattle.haar.proofs.Haar.{value_plus, some_haar, coefficient_of}
 use Rattle.haar.proofs.Split.{value_whole, splits}
 
 -- an empty store has the Haar cells of no running at all
@@ -78,7 +78,7 @@ shifted_D m p j k g v h b e =
 
 -- a load has cells to come to
 pub some_load : (T n m p : ℕ) (g x : ℕ → ℤ) → 1 ≤ T → n ≤ 4 * T → m ≤ n → Chunk m p g → (y : ℕ → ℤ) × Loaded T n m p g x y
-some_load T n m p g x a h l chunk = go (some-haar T n g a h)
+some_load T n m p g x a h l chunk = go (some_haar T n g a h)
   where
     go : (z : ℕ → ℤ) × HaarCells T n g z → (y : ℕ → ℤ) × Loaded T n m p g x y
     go (z, haar) =

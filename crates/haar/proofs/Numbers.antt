@@ -6,7 +6,7 @@ use Rattle.haar.specs.declared.coefficient.Coefficient.{Coefficient}
 use Rattle.haar.specs.declared.coefficient.Coefficient.TheVariants.{TileSum, Difference}
 use Rattle.haar.specs.Tiles.{tiles_before, slot, depth, cell_number, cell_count, Inside}
 use Rattle.std.proofs.lemmas.Bool.{cases_lt}
-use Rattle.haar.proofs.Ladder.{rising, same_step, find-step}
+use Rattle.haar.proofs.Ladder.{rising, same_step, find_step}
 
 pub sixteen : (d : ℕ) → 16 ^ d ≡ 2 ^ (4 * d)
 sixteen zero = refl
@@ -88,7 +88,7 @@ at_diff top d k h r a b c g =
 
 at_slot : (top d k s : ℕ) → d ≤ top → k < 16 ^ d → s < 16 → (x : Coefficient) × Placed top x × (cell_number (suc top) x ≡ 16 * (tiles_before d + k) + s)
 at_slot top d k s a b c =
-    ⊎_elim (λ (p : 0 < s). other (find-step (λ x. 2 ^ x) pow_rises 3 s p c))
+    ⊎_elim (λ (p : 0 < s). other (find_step (λ x. 2 ^ x) pow_rises 3 s p c))
     (λ (z : s ≤ 0). let w = at_whole top d k a b in (w.0, w.1, omega arith)) (cases_lt 0 s)
   where
     other : (h : ℕ) × (h ≤ 3) × (2 ^ h ≤ s) × (s < 2 ^ suc h) → (x : Coefficient) × Placed top x × (cell_number (suc top) x ≡ 16 * (tiles_before d + k) + s)
@@ -99,7 +99,7 @@ at_slot top d k s a b c =
 -- every cell has a coefficient
 pub decode : (top c : ℕ) → c < cell_count (suc top) → (s : Coefficient) × Placed top s × (cell_number (suc top) s ≡ c)
 unfolding tiles_before
-decode top c h = go (find-step tiles_before before_rises top (c / 16) (omega arith) (omega arith))
+decode top c h = go (find_step tiles_before before_rises top (c / 16) (omega arith) (omega arith))
   where
     go : (d : ℕ) × (d ≤ top) × (tiles_before d ≤ c / 16) × (c / 16 < tiles_before (suc d)) → (s : Coefficient) × Placed top s × (cell_number (suc top) s ≡ c)
     go (d, l, lo, hi) =

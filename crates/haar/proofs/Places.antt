@@ -6,7 +6,7 @@ use Rattle.haar.specs.Tiles.{band, tile, slot, tiles_before, cell_number, cell_c
 use Rattle.haar.specs.Places.{InTree}
 use Rattle.haar.proofs.Ladder.{rising}
 use Rattle.haar.proofs.Numbers.{before_rises, inside_below}
-use Rattle.haar.proofs.Read.{start-inside}
+use Rattle.haar.proofs.Read.{start_inside}
 
 -- a cell from its parts
 pub number_at : (T : ℕ) (s : Coefficient) → 1 ≤ T → cell_number T s ≡ 16 * (tiles_before (T - 1 - band s) + tile s) + slot s
@@ -40,7 +40,7 @@ pub sum_parts : (T j k t b : ℕ) → InTree T j k → 1 ≤ T → t ≡ (j - 1)
 sum_parts T j k t b i l q e =
     let f = i.few in
     let u = i.low in
-    let p = cell_parts T (TileSum t (k / 2 ^ (4 * t + 4 - j))) l f (start-inside (4 * T) j k t u i.inside q) in
+    let p = cell_parts T (TileSum t (k / 2 ^ (4 * t + 4 - j))) l f (start_inside (4 * T) j k t u i.inside q) in
     let z : min (T - 1 - t) 5 ≡ T - 1 - t = omega arith in
     let y = ap tiles_before z in
     (omega arith, omega arith)

@@ -24,15 +24,15 @@ module _ (n j k t : ℕ) (h : j ≤ n) (b : k < 2 ^ (n - j)) (e : t ≡ (j - 1) 
       (cases_lt n (4 * t + 4))
 
   -- the tile of band t over (j,k) is inside the size
-  pub start-inside : Inside n (TileSum t (k / 2 ^ (4 * t + 4 - j)))
-  start-inside =
+  pub start_inside : Inside n (TileSum t (k / 2 ^ (4 * t + 4 - j)))
+  start_inside =
       let q : n - j ≡ n - min (4 * t + 4) n + (min (4 * t + 4) n - j) = omega arith in
       whole_inside n t _ (omega arith) (rw same_index (shr_lt (n - min (4 * t + 4) n) (min (4 * t + 4) n - j) (rw (← q) b)))
 
 -- it holds the sum of level r, the smaller of 4t + 4 and n
 pub read_start : (T n j k t : ℕ) (f x : ℕ → ℤ) → j ≤ n → k < 2 ^ (n - j) → t ≡ (j - 1) / 4 → HaarCells T n f x → x (cell_number T (TileSum t (k / 2 ^ (4 * t + 4 - j)))) ≡ S f (min (4 * t + 4) n) (k / 2 ^ (min (4 * t + 4) n - j))
 read_start T n j k t f x h b e haar =
-    haar.held _ (start-inside n j k t h b e) ∙ value_whole n f t _ (start-inside n j k t h b e) ∙ ap (S f (min (4 * t + 4) n)) (same_index n j k t h b e)
+    haar.held _ (start_inside n j k t h b e) ∙ value_whole n f t _ (start_inside n j k t h b e) ∙ ap (S f (min (4 * t + 4) n)) (same_index n j k t h b e)
 
 -- a chunk inside the size leaves the minutes past it alone
 pub chunk_blank : (n m p : ℕ) (g : ℕ → ℤ) → m ≤ n → p < 2 ^ (n - m) → Chunk m p g → Blank n g

@@ -61,14 +61,14 @@ module _ (m p : ℕ) (g : ℕ → ℤ) (chunk : Chunk m p g) where
   untouched l k un i e = chunk i (λ e'. un (meet l k m p i e e'))
 
   -- the index of the touched interval of a level not below the chunk
-  level-up : (l k : ℕ) → m ≤ l → k / 2 ^ (m - l) ≡ p / 2 ^ (l - m) → k ≡ p / 2 ^ (l - m)
-  level-up l k h e =
+  level_up : (l k : ℕ) → m ≤ l → k / 2 ^ (m - l) ≡ p / 2 ^ (l - m) → k ≡ p / 2 ^ (l - m)
+  level_up l k h e =
       let z : 0 ≡ m - l = omega arith in
       sym (div-one k) ∙ ap (λ x. k / 2 ^ x) z ∙ e
 
   -- the other intervals of a level not below the chunk
   beside : (d k : ℕ) → (k ≡ p / 2 ^ d → ⊥) → S g (m + d) k ≡ pos 0
-  beside d k un = off_S g (m + d) k (untouched (m + d) k (λ e. un (level-up (m + d) k (omega arith) e ∙ ap (λ x. p / 2 ^ x) (add-sub_cancel_left m d))))
+  beside d k un = off_S g (m + d) k (untouched (m + d) k (λ e. un (level_up (m + d) k (omega arith) e ∙ ap (λ x. p / 2 ^ x) (add-sub_cancel_left m d))))
 
   -- one step up the root path
   left_up : (d k : ℕ) → p / 2 ^ d ≡ 2 * k → S g (m + d) (p / 2 ^ d) ≡ S g m p → (S g (suc (m + d)) k ≡ S g m p) × (D g (suc (m + d)) k ≡ S g m p)
@@ -77,8 +77,8 @@ module _ (m p : ℕ) (g : ℕ → ℤ) (chunk : Chunk m p g) where
       let there = beside d (2 * k + 1) (λ b. omega arith) in
       (omega (arith, ints, halves g (m + d) k), omega (arith, ints, D_suc g (m + d) k))
 
-  right-up : (d k : ℕ) → p / 2 ^ d ≡ 2 * k + 1 → S g (m + d) (p / 2 ^ d) ≡ S g m p → (S g (suc (m + d)) k ≡ S g m p) × (D g (suc (m + d)) k ≡ neg_ℤ (S g m p))
-  right-up d k e h =
+  right_up : (d k : ℕ) → p / 2 ^ d ≡ 2 * k + 1 → S g (m + d) (p / 2 ^ d) ≡ S g m p → (S g (suc (m + d)) k ≡ S g m p) × (D g (suc (m + d)) k ≡ neg_ℤ (S g m p))
+  right_up d k e h =
       let here : S g (m + d) (2 * k + 1) ≡ S g m p = ap (S g (m + d)) (sym e) ∙ h in
       let there = beside d (2 * k) (λ b. omega arith) in
       (omega (arith, ints, halves g (m + d) k), omega (arith, ints, D_suc g (m + d) k))
@@ -86,15 +86,15 @@ module _ (m p : ℕ) (g : ℕ → ℤ) (chunk : Chunk m p g) where
   -- the sum over the chunk, at every level of the root path
   over : (d : ℕ) → S g (m + d) (p / 2 ^ d) ≡ S g m p
   over zero = ap₂ (S g) (add-zero m) (div-one p)
-  over (suc d) = rw (add-suc, shift_suc p d) (grind (arith, left_up d (p / 2 ^ d / 2), right-up d (p / 2 ^ d / 2), over d))
+  over (suc d) = rw (add-suc, shift_suc p d) (grind (arith, left_up d (p / 2 ^ d / 2), right_up d (p / 2 ^ d / 2), over d))
 
   pub splits : (n : ℕ) → m ≤ n → Splits n m p g
   splits n h =
       record {
         untouched = none;
         left = λ j k l e. ap (λ x. D g x k) (from j l) ∙ (left_up (j - 1 - m) k e (over (j - 1 - m))).1;
-        right = λ j k l e. ap (λ x. D g x k) (from j l) ∙ (right-up (j - 1 - m) k e (over (j - 1 - m))).1;
-        over = λ t k i l e. value_whole n g t k i ∙ ap₂ (S g) (omega arith) (level-up (level n (TileSum t k)) k (omega arith) e) ∙ over (level n (TileSum t k) - m);
+        right = λ j k l e. ap (λ x. D g x k) (from j l) ∙ (right_up (j - 1 - m) k e (over (j - 1 - m))).1;
+        over = λ t k i l e. value_whole n g t k i ∙ ap₂ (S g) (omega arith) (level_up (level n (TileSum t k)) k (omega arith) e) ∙ over (level n (TileSum t k) - m);
       }
     where
       from : (j : ℕ) → m < j → j ≡ suc (m + (j - 1 - m))

@@ -24,8 +24,8 @@ module _ (m : Meaning) (es : List Entry) (n c : ℕ) (x : ℤ) (r : Reads m c (O
   pub reads_held : (at : ℕ) (v : ℤ) → v ≡ (entry_at es at).value → Tidy es n → Held es n c at → Reads (held_over es n m) c (Ok v)
   reads_held at v e t h = record { inside = λ _. ap (λ (z : ℤ). Ok z) (e ∙ sym (over_held es n c at m.cells t h)); outside = answered }
 
-  pub reads-below : Lacks es n c → Reads (held_over es n m) c (Ok x)
-  reads-below h = record { inside = λ l. r.inside l ∙ ap (λ (v : ℤ). Ok v) (sym (choose_none _ _ (miss es n c h))); outside = answered }
+  pub reads_below : Lacks es n c → Reads (held_over es n m) c (Ok x)
+  reads_below h = record { inside = λ l. r.inside l ∙ ap (λ (v : ℤ). Ok v) (sym (choose_none _ _ (miss es n c h))); outside = answered }
 
 -- a write that is done
 pub writes_done : (m n : Meaning) (c : ℕ) (v : ℤ) → c < cell_count m.bands → (Bars m c v → ⊥) → Put m c v n → Writes m c v (Ok tt) n

@@ -76,16 +76,16 @@ alike_none es m = record { same = record { bands = refl; cells = λ k _. refl; r
 
 -- one entry more: it counts where its cell is zero below
 module _ (m : Meaning) (es : List Entry) (n : ℕ) (r : Bool) (z : ZeroAt m (entry_at es n).cell r) where
-  pub fresh-yes : r ≡ true → fresh (cell_count m.bands) es (n + 1) m.cells ≡ fresh (cell_count m.bands) es n m.cells + 1
+  pub fresh_yes : r ≡ true → fresh (cell_count m.bands) es (n + 1) m.cells ≡ fresh (cell_count m.bands) es n m.cells + 1
   unfolding fresh
-  fresh-yes t =
+  fresh_yes t =
       let y = z.yes t in
       let w = ap weight y.1 in
       rw (add-one n) (grind (arith, nat_tests))
 
-  pub fresh-no : r ≡ false → fresh (cell_count m.bands) es (n + 1) m.cells ≡ fresh (cell_count m.bands) es n m.cells
+  pub fresh_no : r ≡ false → fresh (cell_count m.bands) es (n + 1) m.cells ≡ fresh (cell_count m.bands) es n m.cells
   unfolding fresh
-  fresh-no f =
+  fresh_no f =
       rw (add-one n) (elim (cases_lt (entry_at es n).cell (cell_count m.bands)) [
         | inl l ↦ let w = weight_one _ (z.none f l) in grind (arith, nat_tests)
         | inr l ↦ grind (arith, nat_tests)

@@ -9,10 +9,10 @@ use Rattle.store.specs.Meaning.{Meaning, weight, filled, Bars, Put, Writes}
 use Rattle.store.specs.Table.{entry_at, lookup, Lacks, Gap, Inserted, Removed}
 use Rattle.store.proofs.Counting.{filled_put, put_keeps}
 use Rattle.store.proofs.Lookups.{hit, miss}
-use Rattle.store.proofs.Inserting.{removed_inserted, ascends-less, others}
-use Rattle.store.proofs.Changing.{set_here, others-set}
+use Rattle.store.proofs.Inserting.{removed_inserted, ascends_less, others}
+use Rattle.store.proofs.Changing.{set_here, others_set}
 use Rattle.holdback.specs.Over.{choose, over, fresh, held_over, Forgotten}
-use Rattle.holdback.proofs.Tidy.{Tidy, tidy-more, tidy_set}
+use Rattle.holdback.proofs.Tidy.{Tidy, tidy_more, tidy_set}
 use Rattle.holdback.proofs.Counted.{choose_held, choose_none, fresh_filled}
 
 -- room and nonzero cells of the store below stay together, so those of the layer do
@@ -39,13 +39,13 @@ change_puts m es at n new v l same e z u inside t =
     ∙ ap (λ (x : Entry). x.value) (set_here es at new l) ∙ e in
     held_puts m m es (set es at new) n n _ v inside t s refl refl
     (choose_held _ _ (λ q. z (sym is ∙ q)) ∙ is)
-    (λ d _ ne. ap (λ (h : ℤ). choose h (m.cells d)) (others-set es at new l same n t.ascends d ne))
+    (λ d _ ne. ap (λ (h : ℤ). choose h (m.cells d)) (others_set es at new l same n t.ascends d ne))
 
 -- a number for a cell that is not held
 pub hold_puts : (m : Meaning) (es fs : List Entry) (at n : ℕ) (new : Entry) (v : ℤ) → new.value ≡ v → (v ≡ pos 0 → ⊥) → new.cell < cell_count m.bands → Tidy es n
     → Gap es n new.cell at → Inserted es at n new fs → Put (held_over es n m) new.cell v (held_over fs (n + 1) m)
 hold_puts m es fs at n new v e z inside t g i =
-    let s = tidy-more es fs at n (n + 1) new refl g.within i t g (λ q. z (sym e ∙ q)) in
+    let s = tidy_more es fs at n (n + 1) new refl g.within i t g (λ q. z (sym e ∙ q)) in
     let is = hit fs (n + 1) new.cell at s.ascends (record { used = omega (arith, g.within); is = ap (λ (x : Entry). x.cell) i.here })
     ∙ ap (λ (x : Entry). x.value) i.here ∙ e in
     held_puts m m es fs n (n + 1) _ v inside t s refl refl
@@ -64,7 +64,7 @@ forgotten_puts m m' es fs n k c v inside t s f p =
 pub removed_forgotten : (es fs : List Entry) (at n m c : ℕ) → m ≡ n + 1 → at ≤ n → (entry_at es at).cell ≡ c → Tidy es m → Removed es at n fs → Forgotten es m c fs n
 removed_forgotten es fs at n m c more within is t r =
     let i = removed_inserted es fs at n r in
-    let a = ascends-less fs es at n m (entry_at es at) more within i t.ascends in
+    let a = ascends_less fs es at n m (entry_at es at) more within i t.ascends in
     let lacks : Lacks fs n c = λ k u e. elim (cases_lt k at) [
       | inl l ↦ let up = t.ascends k at l (omega arith) in let ck = ap (λ (x : Entry). x.cell) (r.before k l) in omega arith
       | inr l ↦ let up = t.ascends at (k + 1) (omega arith) (omega arith) in let ck = ap (λ (x : Entry). x.cell) (r.after k l u) in omega arith

@@ -75,9 +75,9 @@ module _ (m₀ : Meaning) (es : List Entry) (n : ℕ) (t : Tidy es n) (room : po
       omega (arith, ints)
 
   -- the next number written below
-  pub pour-step : (m m' : Meaning) (i : ℕ) (r : Result Unit CellFault) → i < n → Same (held_over es i m₀) m → Writes m (entry_at es i).cell (entry_at es i).value r m'
+  pub pour_step : (m m' : Meaning) (i : ℕ) (r : Result Unit CellFault) → i < n → Same (held_over es i m₀) m → Writes m (entry_at es i).cell (entry_at es i).value r m'
       → Same (held_over es (i + 1) m₀) m'
-  pour-step m m' i r l s w =
+  pour_step m m' i r l s w =
       rw (add-one i) (elim (cases_lt (entry_at es i).cell (cell_count m₀.bands)) [
         | inl inside ↦
             let u = tidy_part es n (suc i) (omega arith) t in

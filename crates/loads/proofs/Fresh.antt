@@ -46,5 +46,5 @@ module _ (T n m p : ℕ) (g x y : ℕ → ℤ) (load : Loaded T n m p g x y) whe
       let e : fresh x y (cell + 1) ≡ fresh x y (suc cell) = ap (fresh x y) z in
       omega arith
 
-  pub fresh-end : (from : ℕ) → from ≤ cell_count T → Past T n m p from → fresh x y (cell_count T) ≡ fresh x y from
-  fresh-end from h past = fresh_gap x y from (cell_count T) h (gap from (cell_count T) (omega arith) (λ s me lo. absurd (omega (arith, past s me))))
+  pub fresh_end : (from : ℕ) → from ≤ cell_count T → Past T n m p from → fresh x y (cell_count T) ≡ fresh x y from
+  fresh_end from h past = fresh_gap x y from (cell_count T) h (gap from (cell_count T) (omega arith) (λ s me lo. absurd (omega (arith, past s me))))

@@ -33,14 +33,14 @@ module _ (T n : ℕ) (below : n < 4 * T) where
   tile_inside : Fills n → Inside (suc n) (TileSum (n / 4) 0)
   tile_inside f = (inr (omega arith), omega (arith, pow_pos (suc n)))
 
-  pub total-below : total_cell T n < cell_count T
-  total-below = inside_below T n (TileSum (bands_in_use n - 1) 0) (omega arith) (omega arith) total_inside
+  pub total_below : total_cell T n < cell_count T
+  total_below = inside_below T n (TileSum (bands_in_use n - 1) 0) (omega arith) (omega arith) total_inside
 
   pub top_below : top_cell T n < cell_count T
   top_below = inside_below T (suc n) (Difference (suc n) 0) (omega arith) (omega arith) top_inside
 
-  pub tile-below : Fills n → tile_cell T n < cell_count T
-  tile-below f = inside_below T (suc n) (TileSum (n / 4) 0) (omega arith) (omega arith) (tile_inside f)
+  pub tile_below : Fills n → tile_cell T n < cell_count T
+  tile_below f = inside_below T (suc n) (TileSum (n / 4) 0) (omega arith) (omega arith) (tile_inside f)
 
   pub apart : Fills n → top_cell T n ≡ tile_cell T n → ⊥
   apart f e =
@@ -65,16 +65,16 @@ none_tile false at o e f = refl
 
 -- a growth that writes one cell
 module _ (m m' : Meaning) (n : ℕ) (total : ℤ) (below : n < 4 * m.bands) (no_tile : fills n ≡ false) where
-  pub free-alone : pos (newly m.bands n total m.cells) ≤ℤ m.room → Bars m (top_cell m.bands n) total → ⊥
-  free-alone r b =
+  pub free_alone : pos (newly m.bands n total m.cells) ≤ℤ m.room → Bars m (top_cell m.bands n) total → ⊥
+  free_alone r b =
       let u : newly m.bands n total m.cells ≡ (weight total - weight (m.cells (top_cell m.bands n))) + 0 = ap (λ x. (weight total - weight (m.cells (top_cell m.bands n))) + cond x (weight total - weight (m.cells (tile_cell m.bands n))) 0) no_tile in
       let b0 = b.0 in
       let b1 = b.1 in
       let b2 = b.2 in
       omega (arith, ints)
 
-  pub topped-alone : Put m (top_cell m.bands n) total m' → Topped n total m m'
-  topped-alone p =
+  pub topped_alone : Put m (top_cell m.bands n) total m' → Topped n total m m'
+  topped_alone p =
       record {
         bands = p.bands;
         cells = record { top = p.here; tile = λ f. absurd (fills_not n no_tile f); kept = λ c l ne _. p.others c l ne };
@@ -86,8 +86,8 @@ module _ (m m₁ m' : Meaning) (n : ℕ) (total : ℤ) (below : n < 4 * m.bands)
   counted : newly m.bands n total m.cells ≡ (weight total - weight (m.cells (top_cell m.bands n))) + (weight total - weight (m.cells (tile_cell m.bands n)))
   counted = ap (λ x. (weight total - weight (m.cells (top_cell m.bands n))) + cond x (weight total - weight (m.cells (tile_cell m.bands n))) 0) tile
 
-  pub free-first : pos (newly m.bands n total m.cells) ≤ℤ m.room → Bars m (tile_cell m.bands n) total → ⊥
-  free-first r b =
+  pub free_first : pos (newly m.bands n total m.cells) ≤ℤ m.room → Bars m (tile_cell m.bands n) total → ⊥
+  free_first r b =
       let u = counted in
       let b0 = b.0 in
       let b1 = b.1 in
@@ -95,22 +95,22 @@ module _ (m m₁ m' : Meaning) (n : ℕ) (total : ℤ) (below : n < 4 * m.bands)
       omega (arith, ints)
 
   module _ (p : Put m (tile_cell m.bands n) total m₁) where
-    same-top : m₁.cells (top_cell m.bands n) ≡ m.cells (top_cell m.bands n)
-    same-top = p.others (top_cell m.bands n) (top_below m.bands n below) (apart m.bands n below (fills_is n tile))
+    same_top : m₁.cells (top_cell m.bands n) ≡ m.cells (top_cell m.bands n)
+    same_top = p.others (top_cell m.bands n) (top_below m.bands n below) (apart m.bands n below (fills_is n tile))
 
-    pub free-second : pos (newly m.bands n total m.cells) ≤ℤ m.room → Bars m₁ (top_cell m.bands n) total → ⊥
-    free-second r b =
+    pub free_second : pos (newly m.bands n total m.cells) ≤ℤ m.room → Bars m₁ (top_cell m.bands n) total → ⊥
+    free_second r b =
         let u = counted in
-        let t = ap weight same-top in
+        let t = ap weight same_top in
         let b0 = b.0 in
         let b1 = b.1 in
         let b2 = b.2 in
         let q = p.room in
         omega (arith, ints)
 
-    pub topped-both : Put m₁ (top_cell m.bands n) total m' → Topped n total m m'
-    topped-both q =
-        let keep₁ = put_keeps m m₁ (tile_cell m.bands n) total (tile-below m.bands n below (fills_is n tile)) p in
+    pub topped_both : Put m₁ (top_cell m.bands n) total m' → Topped n total m m'
+    topped_both q =
+        let keep₁ = put_keeps m m₁ (tile_cell m.bands n) total (tile_below m.bands n below (fills_is n tile)) p in
         let top₁ : top_cell m.bands n < cell_count m₁.bands = subst (λ t. top_cell m.bands n < cell_count t) (sym p.bands) (top_below m.bands n below) in
         let keep₂ = put_keeps m₁ m' (top_cell m.bands n) total top₁ q in
         record {
@@ -118,7 +118,7 @@ module _ (m m₁ m' : Meaning) (n : ℕ) (total : ℤ) (below : n < 4 * m.bands)
           cells =
               record {
                 top = q.here;
-                tile = λ f. q.others (tile_cell m.bands n) (subst (λ t. tile_cell m.bands n < cell_count t) (sym p.bands) (tile-below m.bands n below f)) (λ e. apart m.bands n below f (sym e)) ∙ p.here;
+                tile = λ f. q.others (tile_cell m.bands n) (subst (λ t. tile_cell m.bands n < cell_count t) (sym p.bands) (tile_below m.bands n below f)) (λ e. apart m.bands n below f (sym e)) ∙ p.here;
                 kept = λ c l ne first. q.others c (subst (λ t. c < cell_count t) (sym p.bands) l) ne ∙ p.others c l (first (fills_is n tile));
               };
           room = subst (λ t. m'.room +ℤ pos (filled m'.cells (cell_count t)) ≡ m₁.room +ℤ pos (filled m₁.cells (cell_count t))) p.bands keep₂ ∙ keep₁;

@@ -43,13 +43,13 @@ module _ (T n m p : ℕ) (g : ℕ → ℤ) (some : 1 ≤ T) (held : n ≤ 4 * T)
     pub cell_in : cell < cell_count T
     cell_in = subst (λ c. c < cell_count T) f.numbered (inside_below T n s some held f.meets.inside)
 
-    pub cell-kept : now.cells cell ≡ before.cells cell
-    cell-kept = part.kept cell cell_in (λ s' me e l. omega (arith, f.after))
+    pub cell_kept : now.cells cell ≡ before.cells cell
+    cell_kept = part.kept cell cell_in (λ s' me e l. omega (arith, f.after))
 
     -- its new number, as the code adds it up
     module _ (number' share' : ℤ) (f₁ : SFits w64 number') (f₂ : SFits w64 share') (read : Reads now cell (Ok number')) (is : share' ≡ value n g s) (small : Clear T n m p g before.cells (cell_count T)) where
       sum_is : to_z w64 (of_z w64 number') +ℤ to_z w64 (of_z w64 share') ≡ before.cells cell +ℤ value n g s
-      sum_is = ap₂ ◌+ℤ◌ (to_z-of_z w64 _ f₁ ∙ read_is now T cell number' part.bands cell_in read ∙ cell-kept) (to_z-of_z w64 _ f₂ ∙ is)
+      sum_is = ap₂ ◌+ℤ◌ (to_z-of_z w64 _ f₁ ∙ read_is now T cell number' part.bands cell_in read ∙ cell_kept) (to_z-of_z w64 _ f₂ ∙ is)
 
       pub sum_fits : SFits w64 (to_z w64 (of_z w64 number') +ℤ to_z w64 (of_z w64 share'))
       sum_fits =
@@ -60,20 +60,20 @@ module _ (T n m p : ℕ) (g : ℕ → ℤ) (some : 1 ≤ T) (held : n ≤ 4 * T)
       new_is = to_z-of_z w64 _ sum_fits ∙ sum_is
 
     -- and there is room for it
-    pub cell-open : (y : ℕ → ℤ) → Loaded T n m p g before.cells y → pos (fresh before.cells y (cell_count T)) ≤ℤ before.room → (v : ℤ) → v ≡ before.cells cell +ℤ value n g s → Bars now cell v → ⊥
-    cell-open y load fits v e bars =
+    pub cell_open : (y : ℕ → ℤ) → Loaded T n m p g before.cells y → pos (fresh before.cells y (cell_count T)) ≤ℤ before.room → (v : ℤ) → v ≡ before.cells cell +ℤ value n g s → Bars now cell v → ⊥
+    cell_open y load fits v e bars =
         let a = fresh_step T n m p g before.cells y load from cell s cell_in f in
         let r = fresh_rises before.cells y (cell + 1) (cell_count T) (omega (arith, cell_in)) in
         let u = ap weight e in
-        let w = ap weight cell-kept in
+        let w = ap weight cell_kept in
         let l = part.left y load in
         let b0 = bars.0 in
         let b1 = bars.1 in
         let b2 = bars.2 in
         omega (arith, ints)
 
-    pub partly-step : (v : ℤ) (next : Meaning) → v ≡ before.cells cell +ℤ value n g s → Put now cell v next → Partly T n m p g before next (cell + 1)
-    partly-step v next e put =
+    pub partly_step : (v : ℤ) (next : Meaning) → v ≡ before.cells cell +ℤ value n g s → Put now cell v next → Partly T n m p g before next (cell + 1)
+    partly_step v next e put =
         record { bands = put.bands ∙ part.bands; below = omega (arith, cell_in); added = added; kept = kept; room = room; left = left }
       where
         counts : cell_count now.bands ≡ cell_count T
@@ -111,13 +111,13 @@ module _ (T n m p : ℕ) (g : ℕ → ℤ) (some : 1 ≤ T) (held : n ≤ 4 * T)
         left y load =
             let a = fresh_step T n m p g before.cells y load from cell s cell_in f in
             let u = ap weight e in
-            let w = ap weight cell-kept in
+            let w = ap weight cell_kept in
             let l = part.left y load in
             let r = put.room in
             omega (arith, ints)
 
-  pub partly-end : before.bands ≡ T → Past T n m p from → Stored T n m p g before now
-  partly-end b past =
+  pub partly_end : before.bands ≡ T → Past T n m p from → Stored T n m p g before now
+  partly_end b past =
       record {
         bands = part.bands ∙ sym b;
         loaded = record {

@@ -28,11 +28,11 @@ module _ (m : ℕ) (zs : List ℤ) (l : length zs ≡ 2 ^ suc m) where
   right : (i : ℕ) → i < 2 ^ m → alone zs (1 * 2 ^ m + i) ≡ alone (drop (2 ^ m) zs) i
   right i h = ap (alone zs) (omega arith) ∙ sym (get_or-drop (2 ^ m) zs i (pos 0))
 
-  left-length : length (take (2 ^ m) zs) ≡ 2 ^ m
-  left-length = length-take-le (2 ^ m) zs (omega (arith, two-pow-succ m))
+  left_length : length (take (2 ^ m) zs) ≡ 2 ^ m
+  left_length = length-take-le (2 ^ m) zs (omega (arith, two-pow-succ m))
 
-  right-length : length (drop (2 ^ m) zs) ≡ 2 ^ m
-  right-length = length-drop (2 ^ m) zs ∙ omega (arith, two-pow-succ m)
+  right_length : length (drop (2 ^ m) zs) ≡ 2 ^ m
+  right_length = length-drop (2 ^ m) zs ∙ omega (arith, two-pow-succ m)
 
 -- the sum at 0, and the difference (j+1,k) at k * 2^(j+1) + 2^j
 pub record Tree (m : ℕ) (zs : List ℤ) : Type 0 where
@@ -47,37 +47,37 @@ module _ (m : ℕ) (zs : List ℤ) (l : length zs ≡ 2 ^ suc m) (low : Tree m (
   both : List ℤ
   both = haar m (take (2 ^ m) zs) ++ haar m (drop (2 ^ m) zs)
 
-  low-length : length (haar m (take (2 ^ m) zs)) ≡ 2 ^ m
-  low-length = length_haar m _ (left-length m zs l)
+  low_length : length (haar m (take (2 ^ m) zs)) ≡ 2 ^ m
+  low_length = length_haar m _ (left_length m zs l)
 
-  both-length : length both ≡ 2 ^ m + 2 ^ m
+  both_length : length both ≡ 2 ^ m + 2 ^ m
   unfolding both
-  both-length = length-append _ _ ∙ ap₂ ◌+◌ low-length (length_haar m _ (right-length m zs l))
+  both_length = length-append _ _ ∙ ap₂ ◌+◌ low_length (length_haar m _ (right_length m zs l))
 
-  low-at : (i : ℕ) → i < 2 ^ m → get_or both i (pos 0) ≡ get_or (haar m (take (2 ^ m) zs)) i (pos 0)
+  low_at : (i : ℕ) → i < 2 ^ m → get_or both i (pos 0) ≡ get_or (haar m (take (2 ^ m) zs)) i (pos 0)
   unfolding both
-  low-at i h = get_or_append_left _ _ (pos 0) i (omega (arith, low-length))
+  low_at i h = get_or_append_left _ _ (pos 0) i (omega (arith, low_length))
 
-  high-at : (i : ℕ) → get_or both (2 ^ m + i) (pos 0) ≡ get_or (haar m (drop (2 ^ m) zs)) i (pos 0)
+  high_at : (i : ℕ) → get_or both (2 ^ m + i) (pos 0) ≡ get_or (haar m (drop (2 ^ m) zs)) i (pos 0)
   unfolding both
-  high-at i = get_or-append_right _ _ (2 ^ m) (2 ^ m + i) (pos 0) low-length (omega arith) ∙ ap (λ x. get_or (haar m (drop (2 ^ m) zs)) x (pos 0)) (omega arith)
+  high_at i = get_or-append_right _ _ (2 ^ m) (2 ^ m + i) (pos 0) low_length (omega arith) ∙ ap (λ x. get_or (haar m (drop (2 ^ m) zs)) x (pos 0)) (omega arith)
 
   first : get_or both 0 (pos 0) ≡ S (alone zs) m 0
-  first = low-at 0 (pow_pos m) ∙ low.sum ∙ sym (shifted_S m 0 m 0 (alone zs) _ (omega arith) (pow_pos (m - m)) (left m zs l)) ∙ ap (S (alone zs) m) (omega arith)
+  first = low_at 0 (pow_pos m) ∙ low.sum ∙ sym (shifted_S m 0 m 0 (alone zs) _ (omega arith) (pow_pos (m - m)) (left m zs l)) ∙ ap (S (alone zs) m) (omega arith)
 
   second : get_or both (2 ^ m) (pos 0) ≡ S (alone zs) m 1
   second =
-      ap (λ x. get_or both x (pos 0)) (sym (add-zero (2 ^ m))) ∙ high-at 0 ∙ high.sum ∙ sym (shifted_S m 1 m 0 (alone zs) _ (omega arith) (pow_pos (m - m)) (right m zs l))
+      ap (λ x. get_or both x (pos 0)) (sym (add-zero (2 ^ m))) ∙ high_at 0 ∙ high.sum ∙ sym (shifted_S m 1 m 0 (alone zs) _ (omega arith) (pow_pos (m - m)) (right m zs l))
       ∙ ap (S (alone zs) m) (omega (arith, same_pow (m - m) 0 (omega arith)))
 
   inside : 2 ^ m < length both
-  inside = omega (arith, both-length, pow_pos m)
+  inside = omega (arith, both_length, pow_pos m)
 
-  sum-up : get_or (joined (2 ^ m) both) 0 (pos 0) ≡ S (alone zs) (suc m) 0
-  sum-up = joined_first (2 ^ m) both (pow_pos m) inside ∙ ap₂ ◌+ℤ◌ first second ∙ halves (alone zs) m 0
+  sum_up : get_or (joined (2 ^ m) both) 0 (pos 0) ≡ S (alone zs) (suc m) 0
+  sum_up = joined_first (2 ^ m) both (pow_pos m) inside ∙ ap₂ ◌+ℤ◌ first second ∙ halves (alone zs) m 0
 
-  difference-top : get_or (joined (2 ^ m) both) (0 * 2 ^ suc m + 2 ^ m) (pos 0) ≡ D (alone zs) (suc m) 0
-  difference-top =
+  difference_top : get_or (joined (2 ^ m) both) (0 * 2 ^ suc m + 2 ^ m) (pos 0) ≡ D (alone zs) (suc m) 0
+  difference_top =
       ap (λ x. get_or (joined (2 ^ m) both) x (pos 0)) (omega arith) ∙ joined_other (2 ^ m) both (pow_pos m) inside ∙ ap₂ ◌-ℤ◌ first second ∙ sym (D_suc (alone zs) m 0)
 
   difference_low : (j k : ℕ) → j < m → k < 2 ^ (suc m - suc j) → get_or (joined (2 ^ m) both) (k * 2 ^ suc j + 2 ^ j) (pos 0) ≡ D (alone zs) (suc j) k
@@ -90,7 +90,7 @@ module _ (m : ℕ) (zs : List ℤ) (l : length zs ≡ 2 ^ suc m) (low : Tree m (
       (λ (lt : k < 2 ^ (m - suc j)).
       let f = mul-le-mul_right (2 ^ suc j) lt in
       let i : k * 2 ^ suc j + 2 ^ j < 2 ^ m = omega arith in
-      joined_else (2 ^ m) _ both (λ z. omega arith) (λ z. omega arith) ∙ low-at _ i ∙ low.difference j k h lt
+      joined_else (2 ^ m) _ both (λ z. omega arith) (λ z. omega arith) ∙ low_at _ i ∙ low.difference j k h lt
       ∙ sym (shifted_D m 0 j k (alone zs) _ h lt (left m zs l)) ∙ ap (D (alone zs) (suc j)) (omega arith))
       (λ (le : 2 ^ (m - suc j) ≤ k).
       let f = mul-le-mul_right (2 ^ suc j) le in
@@ -98,27 +98,27 @@ module _ (m : ℕ) (zs : List ℤ) (l : length zs ≡ 2 ^ suc m) (low : Tree m (
       let e : k ≡ 2 ^ (m - suc j) + (k - 2 ^ (m - suc j)) = omega arith in
       let g : k * 2 ^ suc j ≡ 2 ^ (m - suc j) * 2 ^ suc j + (k - 2 ^ (m - suc j)) * 2 ^ suc j = ap (λ x. x * 2 ^ suc j) e ∙ add-mul (2 ^ (m - suc j)) (k - 2 ^ (m - suc j)) (2 ^ suc j) in
       let i : k * 2 ^ suc j + 2 ^ j ≡ 2 ^ m + ((k - 2 ^ (m - suc j)) * 2 ^ suc j + 2 ^ j) = omega arith in
-      joined_else (2 ^ m) _ both (λ z. omega arith) (λ z. omega arith) ∙ ap (λ x. get_or both x (pos 0)) i ∙ high-at _ ∙ high.difference j _ h k'
+      joined_else (2 ^ m) _ both (λ z. omega arith) (λ z. omega arith) ∙ ap (λ x. get_or both x (pos 0)) i ∙ high_at _ ∙ high.difference j _ h k'
       ∙ sym (shifted_D m 1 j _ (alone zs) _ h k' (right m zs l)) ∙ ap (D (alone zs) (suc j)) (omega arith))
       (cases_lt k (2 ^ (m - suc j)))
 
-  difference-up : (j k : ℕ) → suc j ≤ suc m → k < 2 ^ (suc m - suc j) → get_or (joined (2 ^ m) both) (k * 2 ^ suc j + 2 ^ j) (pos 0) ≡ D (alone zs) (suc j) k
-  difference-up j k h b =
+  difference_up : (j k : ℕ) → suc j ≤ suc m → k < 2 ^ (suc m - suc j) → get_or (joined (2 ^ m) both) (k * 2 ^ suc j + 2 ^ j) (pos 0) ≡ D (alone zs) (suc j) k
+  difference_up j k h b =
       ⊎_elim (λ lt. difference_low j k lt b)
       (λ (le : m ≤ j).
       let e : j ≡ m = omega arith in
       let z : k ≡ 0 = omega (arith, same_pow (suc m - suc j) 0 (omega arith)) in
       subst (λ x. get_or (joined (2 ^ m) both) (k * 2 ^ suc x + 2 ^ x) (pos 0) ≡ D (alone zs) (suc x) k) (sym e)
-      (subst (λ x. get_or (joined (2 ^ m) both) (x * 2 ^ suc m + 2 ^ m) (pos 0) ≡ D (alone zs) (suc m) x) (sym z) difference-top))
+      (subst (λ x. get_or (joined (2 ^ m) both) (x * 2 ^ suc m + 2 ^ m) (pos 0) ≡ D (alone zs) (suc m) x) (sym z) difference_top))
       (cases_lt j m)
 
 pub tree : (m : ℕ) (zs : List ℤ) → length zs ≡ 2 ^ m → Tree m zs
 unfolding both
 tree zero zs l = record { sum = sym (one_minute (alone zs)); difference = λ j k h b. absurd (omega arith) }
 tree (suc m) zs l =
-    let a = tree m (take (2 ^ m) zs) (left-length m zs l) in
-    let b = tree m (drop (2 ^ m) zs) (right-length m zs l) in
-    record { sum = sum-up m zs l a b; difference = difference-up m zs l a b }
+    let a = tree m (take (2 ^ m) zs) (left_length m zs l) in
+    let b = tree m (drop (2 ^ m) zs) (right_length m zs l) in
+    record { sum = sum_up m zs l a b; difference = difference_up m zs l a b }
 
 -- ---- a buffer that is ready
 

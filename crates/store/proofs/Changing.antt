@@ -32,28 +32,28 @@ module _ (es : List Entry) (at : ℕ) (new : Entry) (l : at < length es) where
           | inr ne ↦ ap (λ (e : Entry). e.cell) (set_other k ne)
         ]
 
-    pub ascends-set : (n : ℕ) → Ascends es n → Ascends (set es at new) n
-    ascends-set n a j k jk kn = let cj = cells_same j in let ck = cells_same k in let up = a j k jk kn in omega arith
+    pub ascends_set : (n : ℕ) → Ascends es n → Ascends (set es at new) n
+    ascends_set n a j k jk kn = let cj = cells_same j in let ck = cells_same k in let up = a j k jk kn in omega arith
 
     -- every other cell keeps its number
-    pub others-set : (n : ℕ) → Ascends es n → (c : ℕ) → (c ≡ (entry_at es at).cell → ⊥) → lookup (set es at new) n c ≡ lookup es n c
-    others-set n a c ne =
+    pub others_set : (n : ℕ) → Ascends es n → (c : ℕ) → (c ≡ (entry_at es at).cell → ⊥) → lookup (set es at new) n c ≡ lookup es n c
+    others_set n a c ne =
         let apart : (k : ℕ) → (entry_at es k).cell ≡ c → k ≡ at → ⊥ = λ k e q. ne (sym e ∙ ap (λ (j : ℕ). (entry_at es j).cell) q) in
-        carried es (set es at new) n n c a (ascends-set n a)
+        carried es (set es at new) n n c a (ascends_set n a)
         (λ k h. (k, h.used, set_other k (apart k h.is)))
         (λ k h. (k, h.used, sym (set_other k (apart k (sym (cells_same k) ∙ h.is)))))
 
-    pub sound-set : (T n : ℕ) → at < n → Sound T es n → (new.value ≡ pos 0 → ⊥) → Sound T (set es at new) n
-    sound-set T n u s z = record {
-      ascends = ascends-set n s.ascends;
+    pub sound_set : (T n : ℕ) → at < n → Sound T es n → (new.value ≡ pos 0 → ⊥) → Sound T (set es at new) n
+    sound_set T n u s z = record {
+      ascends = ascends_set n s.ascends;
       nonzero = every_set n (λ (e : Entry). e.value ≡ pos 0 → ⊥) z s.nonzero;
       inside = every_set n (λ (e : Entry). e.cell < cell_count T) (let h = s.inside at u in omega arith) s.inside;
     }
 
 -- one more entry goes down: the step of a removal
 module _ (es fs : List Entry) (at i : ℕ) (l : i < length fs) where
-  pub removed-more : at ≤ i → Removed es at i fs → ((k : ℕ) → i ≤ k → entry_at fs k ≡ entry_at es k) → Removed es at (i + 1) (set fs i (entry_at fs (i + 1)))
-  removed-more w r rest =
+  pub removed_more : at ≤ i → Removed es at i fs → ((k : ℕ) → i ≤ k → entry_at fs k ≡ entry_at es k) → Removed es at (i + 1) (set fs i (entry_at fs (i + 1)))
+  removed_more w r rest =
       let other : (k : ℕ) → (k ≡ i → ⊥) → entry_at (set fs i (entry_at fs (i + 1))) k ≡ entry_at fs k = set_other fs i (entry_at fs (i + 1)) l in record {
         before = λ k u. other k (λ q. omega arith) ∙ r.before k u;
         after = λ k u v. elim (cases_eq k i) [
@@ -64,5 +64,5 @@ module _ (es fs : List Entry) (at i : ℕ) (l : i < length fs) where
         ];
       }
 
-  pub rest-same : ((k : ℕ) → i ≤ k → entry_at fs k ≡ entry_at es k) → (k : ℕ) → i + 1 ≤ k → entry_at (set fs i (entry_at fs (i + 1))) k ≡ entry_at es k
-  rest-same rest k u = set_other fs i (entry_at fs (i + 1)) l k (λ q. omega arith) ∙ rest k (omega arith)
+  pub rest_same : ((k : ℕ) → i ≤ k → entry_at fs k ≡ entry_at es k) → (k : ℕ) → i + 1 ≤ k → entry_at (set fs i (entry_at fs (i + 1))) k ≡ entry_at es k
+  rest_same rest k u = set_other fs i (entry_at fs (i + 1)) l k (λ q. omega arith) ∙ rest k (omega arith)

@@ -46,11 +46,11 @@ module _ (es fs : List Entry) (at n m : ℕ) (new : Entry) (more : m ≡ n + 1) 
         | inr g ↦ subst P g.2 (h g.0 g.1)
       ]
 
-  every-less : (P : Entry → Type 0) → Every P fs m → Every P es n
-  every-less P h k l = let g = there k l in subst P g.2 (h g.0 g.1)
+  every_less : (P : Entry → Type 0) → Every P fs m → Every P es n
+  every_less P h k l = let g = there k l in subst P g.2 (h g.0 g.1)
 
-  pub ascends-more : Ascends es n → Gap es n new.cell at → Ascends fs m
-  ascends-more a g j k jk km =
+  pub ascends_more : Ascends es n → Gap es n new.cell at → Ascends fs m
+  ascends_more a g j k jk km =
       elim (cases_order k at) [
         | inl q ↦
             let ck = ap (λ (e : Entry). e.cell) (ap (entry_at fs) q ∙ i.here) in
@@ -80,8 +80,8 @@ module _ (es fs : List Entry) (at n m : ℕ) (new : Entry) (more : m ≡ n + 1) 
             ]
       ]
 
-  pub ascends-less : Ascends fs m → Ascends es n
-  ascends-less a j k jk kn =
+  pub ascends_less : Ascends fs m → Ascends es n
+  ascends_less a j k jk kn =
       elim (cases_lt j at) [
         | inl u ↦
             let cj = ap (λ (e : Entry). e.cell) (i.before j u) in
@@ -114,14 +114,14 @@ module _ (es fs : List Entry) (at n m : ℕ) (new : Entry) (more : m ≡ n + 1) 
 
   pub sound_more : (T : ℕ) → Sound T es n → Gap es n new.cell at → (new.value ≡ pos 0 → ⊥) → new.cell < cell_count T → Sound T fs m
   sound_more T s g z h = record {
-    ascends = ascends-more s.ascends g;
+    ascends = ascends_more s.ascends g;
     nonzero = every_more (λ (e : Entry). e.value ≡ pos 0 → ⊥) z s.nonzero;
     inside = every_more (λ (e : Entry). e.cell < cell_count T) h s.inside;
   }
 
-  pub sound-less : (T : ℕ) → Sound T fs m → Sound T es n
-  sound-less T s = record {
-    ascends = ascends-less s.ascends;
-    nonzero = every-less (λ (e : Entry). e.value ≡ pos 0 → ⊥) s.nonzero;
-    inside = every-less (λ (e : Entry). e.cell < cell_count T) s.inside;
+  pub sound_less : (T : ℕ) → Sound T fs m → Sound T es n
+  sound_less T s = record {
+    ascends = ascends_less s.ascends;
+    nonzero = every_less (λ (e : Entry). e.value ≡ pos 0 → ⊥) s.nonzero;
+    inside = every_less (λ (e : Entry). e.cell < cell_count T) s.inside;
   }

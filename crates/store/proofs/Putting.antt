@@ -6,8 +6,8 @@ use Rattle.store.specs.declared.entry.Entry.{Entry}
 use Rattle.store.specs.Meaning.{weight, Bars, Put}
 use Rattle.store.specs.Table.{entry_at, lookup, Ascends, Lacks, Gap, Inserted, Removed, table_means}
 use Rattle.store.proofs.Lookups.{hit, miss, gap_lacks}
-use Rattle.store.proofs.Inserting.{removed_inserted, ascends-more, ascends-less, others}
-use Rattle.store.proofs.Changing.{set_here, ascends-set, others-set}
+use Rattle.store.proofs.Inserting.{removed_inserted, ascends_more, ascends_less, others}
+use Rattle.store.proofs.Changing.{set_here, ascends_set, others_set}
 use Rattle.store.proofs.Sound.{Sound}
 
 weight_one : (z : ℤ) → (z ≡ pos 0 → ⊥) → weight z ≡ 1
@@ -28,10 +28,10 @@ removed_lacks es fs at n m more within a r k u e =
     ]
 
 module _ (T most : ℕ) where
-  pub insert-puts : (es fs : List Entry) (at n : ℕ) (new : Entry) (v : ℤ) → new.value ≡ v → (v ≡ pos 0 → ⊥) → n < most → Sound T es n → Gap es n new.cell at
+  pub insert_puts : (es fs : List Entry) (at n : ℕ) (new : Entry) (v : ℤ) → new.value ≡ v → (v ≡ pos 0 → ⊥) → n < most → Sound T es n → Gap es n new.cell at
       → Inserted es at n new fs → Put (table_means es n T most) new.cell v (table_means fs (n + 1) T most)
-  insert-puts es fs at n new v e z u s g i =
-      let a = ascends-more es fs at n (n + 1) new refl g.within i s.ascends g in
+  insert_puts es fs at n new v e z u s g i =
+      let a = ascends_more es fs at n (n + 1) new refl g.within i s.ascends g in
       let one = weight_one v z in
       let none = ap weight (miss es n new.cell (gap_lacks es n _ at g)) in record {
         bands = refl;
@@ -40,11 +40,11 @@ module _ (T most : ℕ) where
         room = omega (arith, ints);
       }
 
-  pub remove-puts : (es fs : List Entry) (at n m : ℕ) → m ≡ n + 1 → at ≤ n → m ≤ most → Sound T es m → Removed es at n fs
+  pub remove_puts : (es fs : List Entry) (at n m : ℕ) → m ≡ n + 1 → at ≤ n → m ≤ most → Sound T es m → Removed es at n fs
       → Put (table_means es m T most) (entry_at es at).cell (pos 0) (table_means fs n T most)
-  remove-puts es fs at n m more within u s r =
+  remove_puts es fs at n m more within u s r =
       let i = removed_inserted es fs at n r in
-      let a = ascends-less fs es at n m (entry_at es at) more within i s.ascends in
+      let a = ascends_less fs es at n m (entry_at es at) more within i s.ascends in
       let one = weighs T es m at s (omega arith) in record {
         bands = refl;
         here = miss fs n _ (removed_lacks es fs at n m more within s.ascends r);
@@ -59,17 +59,17 @@ module _ (T most : ℕ) where
       let new-one = weight_one v z in record {
         bands = refl;
         here =
-            hit (set es at new) n _ at (ascends-set es at new l same n s.ascends) (record { used = u; is = ap (λ (x : Entry). x.cell) (set_here es at new l) ∙ same })
+            hit (set es at new) n _ at (ascends_set es at new l same n s.ascends) (record { used = u; is = ap (λ (x : Entry). x.cell) (set_here es at new l) ∙ same })
             ∙ ap (λ (x : Entry). x.value) (set_here es at new l) ∙ e;
-        others = λ k _ ne. others-set es at new l same n s.ascends k ne;
+        others = λ k _ ne. others_set es at new l same n s.ascends k ne;
         room = omega (arith, ints);
       }
 
   -- writing zero to a cell that has no entry
-  pub zero-puts : (es : List Entry) (n c : ℕ) (v : ℤ) → Lacks es n c → v ≡ pos 0 → Put (table_means es n T most) c v (table_means es n T most)
-  zero-puts es n c v h z =
+  pub zero_puts : (es : List Entry) (n c : ℕ) (v : ℤ) → Lacks es n c → v ≡ pos 0 → Put (table_means es n T most) c v (table_means es n T most)
+  zero_puts es n c v h z =
       let e = miss es n c h ∙ sym z in record { bands = refl; here = e; others = λ k _ ne. refl; room = ap (λ w. pos (most - n) +ℤ pos (weight w)) (sym e) }
 
   -- there is no room for another entry
-  pub full-bars : (es : List Entry) (n c : ℕ) (v : ℤ) → Lacks es n c → (v ≡ pos 0 → ⊥) → most ≤ n → Bars (table_means es n T most) c v
-  full-bars es n c v h z f = (ap weight (miss es n c h), weight_one v z, omega (arith, ints))
+  pub full_bars : (es : List Entry) (n c : ℕ) (v : ℤ) → Lacks es n c → (v ≡ pos 0 → ⊥) → most ≤ n → Bars (table_means es n T most) c v
+  full_bars es n c v h z f = (ap weight (miss es n c h), weight_one v z, omega (arith, ints))

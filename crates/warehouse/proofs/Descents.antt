@@ -4,7 +4,7 @@ use Rattle.haar.specs.Places.{InTree, DifferenceCell, SumCell}
 use Rattle.haar.proofs.Split.{shift_suc}
 use Rattle.warehouse.specs.declared.fault.Fault.{Fault}
 use Rattle.warehouse.specs.Read.{◌then◌, sight, halve, beside, lower, descend, start, first_cell, read}
-use Rattle.warehouse.proofs.Halves.{Small, sight_small, halve-small}
+use Rattle.warehouse.proofs.Halves.{Small, sight_small, halve_small}
 
 -- the cell beside S(j,k)
 pub cell_beside : (T T' j k cell : ℕ) (r : Option ℕ) → T' ≡ T → InTree T (suc j) (k / 2) → DifferenceCell T' (j + 1) (k / 2) r → r ≡ Some cell → cell ≡ beside T j k
@@ -16,8 +16,8 @@ cell_beside T T' j k cell r e tree is q =
 
 -- the interval (j,k) at size n, and the ones over it
 module _ (T n j k : ℕ) (few : T ≤ 5) (low : j ≤ n) (fits : n ≤ 4 * T) (inside : k < 2 ^ (n - j)) where
-  pub tree-here : InTree T j k
-  tree-here = let p : 2 ^ (n - j) ≤ 2 ^ (4 * T - j) = pow_mono {i = n - j} {j = 4 * T - j} (omega arith) in record { few = few; low = omega arith; inside = omega arith }
+  pub tree_here : InTree T j k
+  tree_here = let p : 2 ^ (n - j) ≤ 2 ^ (4 * T - j) = pow_mono {i = n - j} {j = 4 * T - j} (omega arith) in record { few = few; low = omega arith; inside = omega arith }
 
   pub tree_over : (l : ℕ) → l < start n j - j → InTree T (suc (j + l)) (k / 2 ^ l / 2)
   tree_over l h =
@@ -28,14 +28,14 @@ module _ (T n j k : ℕ) (few : T ≤ 5) (low : j ≤ n) (fits : n ≤ 4 * T) (i
 
 -- the first cell is there
 module _ (T T' j k : ℕ) (r : Option ℕ) (e : T' ≡ T) (tree : InTree T j k) (is : SumCell T' j k r) where
-  pub first-is : r ≡ Some (first_cell T j k)
-  first-is = (subst (λ t. SumCell t j k r) e is).there tree
+  pub first_is : r ≡ Some (first_cell T j k)
+  first_is = (subst (λ t. SumCell t j k r) e is).there tree
 
-  pub first-there : is_some r ≡ true
-  first-there = ap is_some first-is
+  pub first_there : is_some r ≡ true
+  first_there = ap is_some first_is
 
   pub first_found : (cell : ℕ) → r ≡ Some cell → cell ≡ first_cell T j k
-  first_found cell q = let u = first-is in cc
+  first_found cell q = let u = first_is in cc
 
 pub lower_at : (T : ℕ) (look : ℕ → Result ℤ Fault) (j k cell : ℕ) (s : ℤ) → cell ≡ beside T j k → ◌then◌ (sight cell (look cell)) (halve cell k s) ≡ lower T look j k s
 unfolding lower
@@ -47,7 +47,7 @@ then_small (Err f) go a b = tt
 
 pub lower_small : (T : ℕ) (look : ℕ → Result ℤ Fault) (j k : ℕ) (s : ℤ) → nat_abs s ≤ 2 ^ 56 → Small (lower T look j k s)
 unfolding lower
-lower_small T look j k s h = then_small _ _ (sight_small _ (look (beside T j k))) (λ v b. halve-small (beside T j k) k s v h b)
+lower_small T look j k s h = then_small _ _ (sight_small _ (look (beside T j k))) (λ v b. halve_small (beside T j k) k s v h b)
 
 descend_small : (T : ℕ) (look : ℕ → Result ℤ Fault) (first j k d : ℕ) → Small (descend T look first j k d)
 unfolding descend
@@ -64,9 +64,9 @@ on_the_way T n look j k l = descend T look (first_cell T j k) (j + l) (k / 2 ^ l
 
 module _ (T n : ℕ) (look : ℕ → Result ℤ Fault) (j k : ℕ) where
   -- at its start, in the first cell
-  pub way-first : (cell l : ℕ) → cell ≡ first_cell T j k → l ≡ start n j - j → sight cell (look cell) ≡ on_the_way T n look j k l
+  pub way_first : (cell l : ℕ) → cell ≡ first_cell T j k → l ≡ start n j - j → sight cell (look cell) ≡ on_the_way T n look j k l
   unfolding descend
-  way-first cell l q e =
+  way_first cell l q e =
       let z : 0 ≡ start n j - j - l = omega arith in
       ap (λ c. sight c (look c)) q ∙ ap (descend T look (first_cell T j k) (j + l) (k / 2 ^ l)) z
 
@@ -87,9 +87,9 @@ module _ (T n : ℕ) (look : ℕ → Result ℤ Fault) (j k : ℕ) where
       ap₂ (λ x y. descend T look (first_cell T j k) x y (start n j - j - 0)) (add-zero j) (div-one k) ∙ ap (descend T look (first_cell T j k) j k) a
 
   -- a fault on the way is the reading's
-  pub way-lost : (l : ℕ) (f : Fault) → l ≤ start n j - j → Err f ≡ on_the_way T n look j k l → Err f ≡ read T n look j k
-  way-lost zero f h e = e ∙ way_end
-  way-lost (suc l) f h e = way-lost l f (omega arith) (ap (λ r. ◌then◌ r (lower T look (j + l) (k / 2 ^ l))) e ∙ way_step l h)
+  pub way_lost : (l : ℕ) (f : Fault) → l ≤ start n j - j → Err f ≡ on_the_way T n look j k l → Err f ≡ read T n look j k
+  way_lost zero f h e = e ∙ way_end
+  way_lost (suc l) f h e = way_lost l f (omega arith) (ap (λ r. ◌then◌ r (lower T look (j + l) (k / 2 ^ l))) e ∙ way_step l h)
 
   -- one level down from the sum s
   pub way_down : (b : ℕ) (s : ℤ) → 0 < b → b ≤ start n j - j → Ok s ≡ on_the_way T n look j k b → lower T look (j + (b - 1)) (k / 2 ^ (b - 1)) s ≡ on_the_way T n look j k (b - 1)
@@ -97,5 +97,5 @@ module _ (T n : ℕ) (look : ℕ → Result ℤ Fault) (j k : ℕ) where
       let a : b ≡ suc (b - 1) = omega arith in
       ap (λ r. ◌then◌ r (lower T look (j + (b - 1)) (k / 2 ^ (b - 1)))) (e ∙ ap (on_the_way T n look j k) a) ∙ way_step (b - 1) (omega arith)
 
-  pub way-small : (l : ℕ) (s : ℤ) → Ok s ≡ on_the_way T n look j k l → nat_abs s ≤ 2 ^ 56
-  way-small l s e = subst Small (sym e) (descend_small T look (first_cell T j k) (j + l) (k / 2 ^ l) (start n j - j - l))
+  pub way_small : (l : ℕ) (s : ℤ) → Ok s ≡ on_the_way T n look j k l → nat_abs s ≤ 2 ^ 56
+  way_small l s e = subst Small (sym e) (descend_small T look (first_cell T j k) (j + l) (k / 2 ^ l) (start n j - j - l))

@@ -11,35 +11,35 @@ use Rattle.warehouse.specs.Ask.{counted, piece, range_reading, sum_reading, aver
 use Rattle.warehouse.specs.Faithful.{Holds, ReadsBack, WithoutBands}
 use Rattle.warehouse.specs.Read.{◌then◌, look, sight, descend, read, cells_read, range_cells, floor}
 use Rattle.warehouse.specs.View.{View}
-use Rattle.warehouse.proofs.Sums.{reads-point, reads-range}
+use Rattle.warehouse.proofs.Sums.{reads_point, reads_range}
 
 module _ (v : View) (f : ℕ → ℤ) (h : Holds v f) where
-  point-back : (i : ℕ) → i < 2 ^ v.size → point_answer v i ≡ Ok (record { value = f i; cells = cells_read v.size 0 })
+  point_back : (i : ℕ) → i < 2 ^ v.size → point_answer v i ≡ Ok (record { value = f i; cells = cells_read v.size 0 })
   unfolding point_answer
-  point-back i l =
+  point_back i l =
       ap (refused (Minute i))
       (cond-true (ltb i (2 ^ v.size)) (piece v.store.bands v.size (look v.store) 0 i) (Err Domain) (lt-ltb _ _ l)
-      ∙ ap (λ r. ◌then◌ r (counted (cells_read v.size 0))) (reads-point v.size f v.store h.some h.fits h.haar h.small i l))
+      ∙ ap (λ r. ◌then◌ r (counted (cells_read v.size 0))) (reads_point v.size f v.store h.some h.fits h.haar h.small i l))
 
-  sum-read : (a b : ℕ) → a ≤ b → b ≤ 2 ^ v.size → sum_reading v a b ≡ counted (range_cells v.size a b) (plain_sum f a (b - a))
+  sum_read : (a b : ℕ) → a ≤ b → b ≤ 2 ^ v.size → sum_reading v a b ≡ counted (range_cells v.size a b) (plain_sum f a (b - a))
   unfolding range_reading
-  sum-read a b l k =
+  sum_read a b l k =
       cond-false (ltb b a) (Err Range) _ (le-ltb _ _ l) ∙ cond-false (ltb (2 ^ v.size) b) (Err Domain) _ (le-ltb _ _ k)
-      ∙ ap (λ r. ◌then◌ r (counted (range_cells v.size a b))) (reads-range v.size f v.store h.some h.fits h.haar h.small a b k)
+      ∙ ap (λ r. ◌then◌ r (counted (range_cells v.size a b))) (reads_range v.size f v.store h.some h.fits h.haar h.small a b k)
 
   sum_back : (a b : ℕ) → a ≤ b → b ≤ 2 ^ v.size → sum_answer v a b ≡ Ok (record { value = plain_sum f a (b - a); cells = range_cells v.size a b })
   unfolding sum_answer
-  sum_back a b l k = ap (refused (Minutes a b)) (sum-read a b l k)
+  sum_back a b l k = ap (refused (Minutes a b)) (sum_read a b l k)
 
-  mean-back : (a b : ℕ) → a < b → b ≤ 2 ^ v.size → mean_answer v a b ≡ Ok (record { value = floor (plain_sum f a (b - a)) (b - a); cells = range_cells v.size a b })
+  mean_back : (a b : ℕ) → a < b → b ≤ 2 ^ v.size → mean_answer v a b ≡ Ok (record { value = floor (plain_sum f a (b - a)) (b - a); cells = range_cells v.size a b })
   unfolding mean_answer
-  mean-back a b l k =
+  mean_back a b l k =
       ap (refused (Minutes a b))
       (cond-false (leb b a) (Err Range) (◌then◌ (sum_reading v a b) (averaged (b - a))) (lt-leb _ _ l)
-      ∙ ap (λ r. ◌then◌ r (averaged (b - a))) (sum-read a b (omega arith) k))
+      ∙ ap (λ r. ◌then◌ r (averaged (b - a))) (sum_read a b (omega arith) k))
 
 pub reads_back : ReadsBack
-reads_back v f h = (point-back v f h, sum_back v f h, mean-back v f h)
+reads_back v f h = (point_back v f h, sum_back v f h, mean_back v f h)
 
 module _ (m : Meaning) (asked : ℕ) (e : m.bands ≡ 0) where
   no_size : min asked (4 * m.bands) ≡ 0
@@ -49,9 +49,9 @@ module _ (m : Meaning) (asked : ℕ) (e : m.bands ≡ 0) where
   unfolding tiles_before
   no_cell = let z = ap cell_count e in cond-false (ltb 0 (cell_count m.bands)) (Ok (m.cells 0)) (Err (Cell (cell.Cell 0))) (le-ltb _ _ (omega arith))
 
-  no-reading : read m.bands (min asked (4 * m.bands)) (look m) 0 0 ≡ Err (Cell (cell.Cell 0))
+  no_reading : read m.bands (min asked (4 * m.bands)) (look m) 0 0 ≡ Err (Cell (cell.Cell 0))
   unfolding read descend
-  no-reading = ap₂ (λ T n. read T n (look m) 0 0) e no_size ∙ ap (sight 0) no_cell
+  no_reading = ap₂ (λ T n. read T n (look m) 0 0) e no_size ∙ ap (sight 0) no_cell
 
 pub without_bands : WithoutBands
 unfolding point_answer
@@ -59,4 +59,4 @@ without_bands m asked e =
     let z = ap (λ n. 2 ^ n) (no_size m asked e) in
     ap (refused (Minute 0))
     (cond-true (ltb 0 (2 ^ min asked (4 * m.bands))) (piece m.bands (min asked (4 * m.bands)) (look m) 0 0) (Err Domain) (lt-ltb _ _ (omega arith))
-    ∙ ap (λ r. ◌then◌ r (counted (cells_read (min asked (4 * m.bands)) 0))) (no-reading m asked e))
+    ∙ ap (λ r. ◌then◌ r (counted (cells_read (min asked (4 * m.bands)) 0))) (no_reading m asked e))

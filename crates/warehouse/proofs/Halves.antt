@@ -36,18 +36,18 @@ sight_small c (Ok v) = sight_cond (leb (nat_abs v) (2 ^ 56)) v c (leb-true _ _)
 sight_small c (Err f) = tt
 
 module _ (cell k : ℕ) (s d : ℤ) (a : nat_abs s ≤ 2 ^ 56) (b : nat_abs d ≤ 2 ^ 56) where
-  plus-small : nat_abs (s +ℤ d) ≤ 2 ^ 57
-  plus-small = omega (arith, ints)
+  plus_small : nat_abs (s +ℤ d) ≤ 2 ^ 57
+  plus_small = omega (arith, ints)
 
-  minus-small : nat_abs (s -ℤ d) ≤ 2 ^ 57
-  minus-small = omega (arith, ints)
+  minus_small : nat_abs (s -ℤ d) ≤ 2 ^ 57
+  minus_small = omega (arith, ints)
 
-  either-small : (t : Bool) → nat_abs (cond t (half (s +ℤ d)) (half (s -ℤ d))) ≤ 2 ^ 56
-  either-small true = half_small (s +ℤ d) plus-small
-  either-small false = half_small (s -ℤ d) minus-small
+  either_small : (t : Bool) → nat_abs (cond t (half (s +ℤ d)) (half (s -ℤ d))) ≤ 2 ^ 56
+  either_small true = half_small (s +ℤ d) plus_small
+  either_small false = half_small (s -ℤ d) minus_small
 
-  pub halve-small : Small (halve cell k s d)
-  halve-small = sight_cond (eqb (nat_abs (s +ℤ d) % 2) 0) (cond (eqb (k % 2) 0) (half (s +ℤ d)) (half (s -ℤ d))) cell (λ _. either-small (eqb (k % 2) 0))
+  pub halve_small : Small (halve cell k s d)
+  halve_small = sight_cond (eqb (nat_abs (s +ℤ d) % 2) 0) (cond (eqb (k % 2) 0) (half (s +ℤ d)) (half (s -ℤ d))) cell (λ _. either_small (eqb (k % 2) 0))
 
 -- the machine's quotient of z by 2
 quotient : (z : ℤ) → nat_abs z ≤ 2 ^ 57 → nat_abs z % 2 ≡ 0 → to_z w64 (of_z w64 (quot_z (to_z w64 (of_z w64 z)) (pos 2))) ≡ half z
@@ -59,15 +59,15 @@ module _ (cell k : ℕ) (s d : ℤ) (a : nat_abs s ≤ 2 ^ 56) (b : nat_abs d �
   passed : halve cell k s d ≡ Ok (cond (eqb (k % 2) 0) (half (s +ℤ d)) (half (s -ℤ d)))
   passed = cond-true (eqb (nat_abs (s +ℤ d) % 2) 0) (Ok (cond (eqb (k % 2) 0) (half (s +ℤ d)) (half (s -ℤ d)))) (Err (Torn cell)) (eq-eqb _ _ even)
 
-  minus-even : nat_abs (s -ℤ d) % 2 ≡ 0
-  minus-even = omega (arith, ints)
+  minus_even : nat_abs (s -ℤ d) % 2 ≡ 0
+  minus_even = omega (arith, ints)
 
-  pub left-half : k % 2 ≡ 0 → Ok (to_z w64 (of_z w64 (quot_z (to_z w64 (of_z w64 (to_z w64 (of_z w64 s) +ℤ to_z w64 (of_z w64 d)))) (pos 2)))) ≡ halve cell k s d
-  left-half q =
-      ap Ok (ap₂ (λ x y. to_z w64 (of_z w64 (quot_z (to_z w64 (of_z w64 (x +ℤ y))) (pos 2)))) (to_z-of_z w64 s f) (to_z-of_z w64 d g) ∙ quotient (s +ℤ d) (plus-small cell k s d a b) even ∙ sym (cond-true (eqb (k % 2) 0) (half (s +ℤ d)) (half (s -ℤ d)) (eq-eqb _ _ q)))
+  pub left_half : k % 2 ≡ 0 → Ok (to_z w64 (of_z w64 (quot_z (to_z w64 (of_z w64 (to_z w64 (of_z w64 s) +ℤ to_z w64 (of_z w64 d)))) (pos 2)))) ≡ halve cell k s d
+  left_half q =
+      ap Ok (ap₂ (λ x y. to_z w64 (of_z w64 (quot_z (to_z w64 (of_z w64 (x +ℤ y))) (pos 2)))) (to_z-of_z w64 s f) (to_z-of_z w64 d g) ∙ quotient (s +ℤ d) (plus_small cell k s d a b) even ∙ sym (cond-true (eqb (k % 2) 0) (half (s +ℤ d)) (half (s -ℤ d)) (eq-eqb _ _ q)))
       ∙ sym passed
 
-  pub right-half : (k % 2 ≡ 0 → ⊥) → Ok (to_z w64 (of_z w64 (quot_z (to_z w64 (of_z w64 (to_z w64 (of_z w64 s) -ℤ to_z w64 (of_z w64 d)))) (pos 2)))) ≡ halve cell k s d
-  right-half q =
-      ap Ok (ap₂ (λ x y. to_z w64 (of_z w64 (quot_z (to_z w64 (of_z w64 (x -ℤ y))) (pos 2)))) (to_z-of_z w64 s f) (to_z-of_z w64 d g) ∙ quotient (s -ℤ d) (minus-small cell k s d a b) minus-even ∙ sym (cond-false (eqb (k % 2) 0) (half (s +ℤ d)) (half (s -ℤ d)) (ne_eqb _ _ q)))
+  pub right_half : (k % 2 ≡ 0 → ⊥) → Ok (to_z w64 (of_z w64 (quot_z (to_z w64 (of_z w64 (to_z w64 (of_z w64 s) -ℤ to_z w64 (of_z w64 d)))) (pos 2)))) ≡ halve cell k s d
+  right_half q =
+      ap Ok (ap₂ (λ x y. to_z w64 (of_z w64 (quot_z (to_z w64 (of_z w64 (x -ℤ y))) (pos 2)))) (to_z-of_z w64 s f) (to_z-of_z w64 d g) ∙ quotient (s -ℤ d) (minus_small cell k s d a b) minus_even ∙ sym (cond-false (eqb (k % 2) 0) (half (s +ℤ d)) (half (s -ℤ d)) (ne_eqb _ _ q)))
       ∙ sym passed

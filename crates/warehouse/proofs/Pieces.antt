@@ -124,8 +124,8 @@ module _ (n k a b j : ℕ) (small : n ≤ 20) (lt : a < b) (inside : b ≤ 2 ^ n
       (λ (ge : n ≤ j). let q : j ≡ n = omega arith in let p = ap (λ x. 2 ^ x) q in inr (0, omega arith, omega arith, omega arith))
       (cases_lt j n)
 
-  pub stage-more : Stage n k a b → Stage n (suc k) (a + 2 ^ j) b
-  stage-more s =
+  pub stage_more : Stage n k a b → Stage n (suc k) (a + 2 ^ j) b
+  stage_more s =
       let low = u.low in
       ⊎_elim
       (λ (p : (a % 2 ^ k ≡ 0) × (k ≤ n + 1)).

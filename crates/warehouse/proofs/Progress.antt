@@ -8,7 +8,7 @@ use Rattle.warehouse.specs.Ask.{counted, piece, range_reading}
 use Rattle.warehouse.specs.Read.{◌then◌, read, cells_read, longest, read_all, all_cells, read_range, range_cells}
 use Rattle.warehouse.proofs.Descents.{read_small}
 use Rattle.warehouse.proofs.Halves.{Small}
-use Rattle.warehouse.proofs.Pieces.{longest_is, pieces_more, pieces_none, cells_few, Stage, stage_few, stage-more}
+use Rattle.warehouse.proofs.Pieces.{longest_is, pieces_more, pieces_none, cells_few, Stage, stage_few, stage_more}
 
 -- a sum that is carried on
 carried : (r : Result ℤ Fault) (v s : ℤ) → ◌then◌ (◌then◌ r (λ x. Ok (s +ℤ x))) (λ x. Ok (v +ℤ x)) ≡ ◌then◌ r (λ x. Ok ((v +ℤ s) +ℤ x))
@@ -39,8 +39,8 @@ module _ (T n : ℕ) (look : ℕ → Result ℤ Fault) (from b : ℕ) (size : n 
   none_left (Ok x) = ap Ok (omega (arith, ints))
   none_left (Err f) = refl
 
-  pub so-far-none : from ≤ b → SoFar T n look from b from (record { value = pos 0; cells = 0 })
-  so-far-none h = record {
+  pub so_far_none : from ≤ b → SoFar T n look from b from (record { value = pos 0; cells = 0 })
+  so_far_none h = record {
     inside = h;
     value = none_left (read_range T n look from b);
     cells = omega arith;
@@ -51,12 +51,12 @@ module _ (T n : ℕ) (look : ℕ → Result ℤ Fault) (from b : ℕ) (size : n 
   }
 
   module _ (a : ℕ) (sum : Reading) (s : SoFar T n look from b a sum) where
-    pub small-sum : (nat_abs sum.value ≤ 2 ^ 62) × (sum.cells ≤ 210)
-    small-sum = let m = stage_few n s.many a b size s.stage in let x = s.small in let y = s.few in (omega arith, omega arith)
+    pub small_sum : (nat_abs sum.value ≤ 2 ^ 62) × (sum.cells ≤ 210)
+    small_sum = let m = stage_few n s.many a b size s.stage in let x = s.small in let y = s.few in (omega arith, omega arith)
 
-    pub so-far-all : b ≤ a → Ok sum ≡ range_reading T n look from b
+    pub so_far_all : b ≤ a → Ok sum ≡ range_reading T n look from b
     unfolding range_reading read_all all_cells
-    so-far-all h =
+    so_far_all h =
         let none = pieces_none n a b h in
         let r : read_range T n look from b ≡ Ok sum.value = s.value ∙ ap (λ x. ◌then◌ (read_all T n look x) (λ r. Ok (sum.value +ℤ r))) none ∙ ap Ok (omega (arith, ints)) in
         let k : range_cells n from b ≡ sum.cells = s.cells ∙ ap (λ x. sum.cells + all_cells n x) none ∙ omega arith in
@@ -70,9 +70,9 @@ module _ (T n : ℕ) (look : ℕ → Result ℤ Fault) (from b : ℕ) (size : n 
           let q : n ≡ n - longest n a b + longest n a b = omega arith in
           shr_lt (n - longest n a b) (longest n a b) (omega (arith, same_pow n (n - longest n a b + longest n a b) q))
 
-      pub so-far-lost : (f : Fault) → read T n look (longest n a b) (a / 2 ^ longest n a b) ≡ Err f → Err f ≡ range_reading T n look from b
+      pub so_far_lost : (f : Fault) → read T n look (longest n a b) (a / 2 ^ longest n a b) ≡ Err f → Err f ≡ range_reading T n look from b
       unfolding range_reading read_all
-      so-far-lost f e =
+      so_far_lost f e =
           let r : read_range T n look a b ≡ Err f = ap (read_all T n look) (pieces_more n a b lt) ∙ ap (λ x. ◌then◌ x (λ s. ◌then◌ (read_range T n look (a + 2 ^ longest n a b) b) (λ r. Ok (s +ℤ r)))) e in
           sym (ap (λ x. ◌then◌ x (counted (range_cells n from b))) (s.value ∙ ap (λ x. ◌then◌ x (λ r. Ok (sum.value +ℤ r))) r))
 
@@ -94,7 +94,7 @@ module _ (T n : ℕ) (look : ℕ → Result ℤ Fault) (from b : ℕ) (size : n 
             value = s.value ∙ ap (λ x. ◌then◌ x (λ r. Ok (sum.value +ℤ r))) r ∙ carried (read_range T n look (a + 2 ^ longest n a b) b) sum.value p.value;
             cells = omega arith;
             many = suc s.many;
-            stage = stage-more n s.many a b (longest n a b) size lt room u s.stage;
+            stage = stage_more n s.many a b (longest n a b) size lt room u s.stage;
             small = omega (arith, ints);
             few = omega (arith, cells_few n (longest n a b));
           }
@@ -109,13 +109,13 @@ module _ (T n : ℕ) (look : ℕ → Result ℤ Fault) (from b : ℕ) (size : n 
   pub piece_inside : (j ≤ n) × (a / 2 ^ j < 2 ^ (n - j))
   piece_inside = subst (λ j. (j ≤ n) × (a / 2 ^ j < 2 ^ (n - j))) (sym is) ((longest_is n a b lt).low, index_inside T n look from b size room a sum s lt)
 
-  pub piece-lost : (f : Fault) → piece T n look j (a / 2 ^ j) ≡ Err f → Err f ≡ range_reading T n look from b
-  piece-lost f e =
-      so-far-lost T n look from b size room a sum s lt f
+  pub piece_lost : (f : Fault) → piece T n look j (a / 2 ^ j) ≡ Err f → Err f ≡ range_reading T n look from b
+  piece_lost f e =
+      so_far_lost T n look from b size room a sum s lt f
       (subst (λ j. read T n look j (a / 2 ^ j) ≡ Err f) is (piece_fault (read T n look j (a / 2 ^ j)) (cells_read n j) f e))
 
-  pub piece-more : (p next : Reading) (a' : ℕ) → piece T n look j (a / 2 ^ j) ≡ Ok p → a' ≡ a + 2 ^ j → next ≡ record { value = sum.value +ℤ p.value; cells = sum.cells + p.cells } → SoFar T n look from b a' next
-  piece-more p next a' e q w =
+  pub piece_more : (p next : Reading) (a' : ℕ) → piece T n look j (a / 2 ^ j) ≡ Ok p → a' ≡ a + 2 ^ j → next ≡ record { value = sum.value +ℤ p.value; cells = sum.cells + p.cells } → SoFar T n look from b a' next
+  piece_more p next a' e q w =
       let far = so_far_more T n look from b size room a sum s lt p (subst (λ j. piece T n look j (a / 2 ^ j) ≡ Ok p) is e) in
       let at : a + 2 ^ longest n a b ≡ a' = ap (λ j. a + 2 ^ j) (sym is) ∙ sym q in
       subst (λ x. SoFar T n look from b x next) at (subst (SoFar T n look from b (a + 2 ^ longest n a b)) (sym w) far)

@@ -8,7 +8,7 @@ use Rattle.warehouse.specs.declared.fault.Fault.{Fault}
 use Rattle.warehouse.specs.declared.fault.Fault.TheVariants.{Torn}
 use Rattle.warehouse.specs.Laws.{Greedy, SplitGreedy, SplitFew, HalvedExactly, RoundedDown}
 use Rattle.warehouse.specs.Read.{half, halve, longest, pieces}
-use Rattle.warehouse.proofs.Pieces.{longest_is, pieces_more, pieces_none, Stage, stage_few, stage-more}
+use Rattle.warehouse.proofs.Pieces.{longest_is, pieces_more, pieces_none, Stage, stage_few, stage_more}
 use Rattle.warehouse.proofs.Sums.{double_even}
 
 greedy : (most n a b : ℕ) → b - a ≤ most → a ≤ b → Greedy n a b (pieces n a b)
@@ -33,7 +33,7 @@ few (suc most) n k a b l h i s =
     (λ (lt : a < b).
     let u = longest_is n a b lt in
     let e = ap length (pieces_more n a b lt) in
-    let r = few most n (suc k) (a + 2 ^ longest n a b) b (omega (arith, pow_pos (longest n a b))) h i (stage-more n k a b (longest n a b) h lt i u s) in
+    let r = few most n (suc k) (a + 2 ^ longest n a b) b (omega (arith, pow_pos (longest n a b))) h i (stage_more n k a b (longest n a b) h lt i u s) in
     omega arith)
     (λ (le : b ≤ a). let e = ap length (pieces_none n a b le) in omega (arith, stage_few n k a b h s))
     (cases_lt a b)
@@ -63,13 +63,13 @@ module _ (c k : ℕ) (s d : ℤ) where
         (λ q. ap (λ y. y +ℤ y) (sym t.1 ∙ cond-false (eqb (k % 2) 0) (half (s +ℤ d)) (half (s -ℤ d)) (ne_eqb _ _ (λ z. omega arith))) ∙ twice (s -ℤ d) odd),
       )
 
-  no-half : (f : Fault) → halve c k s d ≡ Err f → (f ≡ Torn c) × ((x : ℤ) → x +ℤ x ≡ s +ℤ d → ⊥)
-  no-half f e =
+  no_half : (f : Fault) → halve c k s d ≡ Err f → (f ≡ Torn c) × ((x : ℤ) → x +ℤ x ≡ s +ℤ d → ⊥)
+  no_half f e =
       let t = torn (eqb (nat_abs (s +ℤ d) % 2) 0) (cond (eqb (k % 2) 0) (half (s +ℤ d)) (half (s -ℤ d))) f c e in
       (t.1, λ x q. eqb-false _ _ t.0 (ap (λ z. nat_abs z % 2) (sym q) ∙ double_even x))
 
 pub halved_exactly : HalvedExactly
-halved_exactly c k s d = (twice_half c k s d, no-half c k s d)
+halved_exactly c k s d = (twice_half c k s d, no_half c k s d)
 
 pub rounded_down : RoundedDown
 rounded_down (pos s) d h = let q = div-add-mod' s d in let r = mod_below s d h in (omega (arith, ints), omega (arith, ints))

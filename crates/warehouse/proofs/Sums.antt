@@ -11,7 +11,7 @@ use Rattle.haar.specs.Tiles.{cell_number, cell_count, Inside}
 use Rattle.haar.specs.Haar.{HaarCells}
 use Rattle.haar.proofs.Numbers.{same_pow, inside_below}
 use Rattle.haar.proofs.Sums.{halves, D_suc, range_step}
-use Rattle.haar.proofs.Read.{read_start, start-inside}
+use Rattle.haar.proofs.Read.{read_start, start_inside}
 use Rattle.store.specs.Meaning.{Meaning}
 use Rattle.store.specs.declared.fault.CellFault.TheVariants as cell
 use Rattle.warehouse.specs.declared.fault.Fault.TheVariants.{Cell, Torn}
@@ -67,11 +67,11 @@ module _ (n : ℕ) (f : ℕ → ℤ) (m : Meaning) (some : 1 ≤ m.bands) (fits 
   reads j k h b =
       let e : j + (start n j - j) ≡ start n j = omega arith in
       descends _ j k (start n j - j) (omega arith) b
-      (sighted (TileSum (reading_band j) (k / 2 ^ (4 * reading_band j + 4 - j))) _ (start-inside n j k (reading_band j) h b refl) (read_start m.bands n j k (reading_band j) f m.cells h b refl haar) ∙ ap (λ l. Ok (S f l (k / 2 ^ (start n j - j)))) (sym e))
+      (sighted (TileSum (reading_band j) (k / 2 ^ (4 * reading_band j + 4 - j))) _ (start_inside n j k (reading_band j) h b refl) (read_start m.bands n j k (reading_band j) f m.cells h b refl haar) ∙ ap (λ l. Ok (S f l (k / 2 ^ (start n j - j)))) (sym e))
 
-  pub reads-point : (i : ℕ) → i < 2 ^ n → read m.bands n (look m) 0 i ≡ Ok (f i)
+  pub reads_point : (i : ℕ) → i < 2 ^ n → read m.bands n (look m) 0 i ≡ Ok (f i)
   unfolding plain_sum
-  reads-point i h = reads 0 i (omega arith) (rw sub-zero h) ∙ ap Ok (let e : i * 1 + 0 ≡ i = omega arith in omega (arith, ints, ap f e))
+  reads_point i h = reads 0 i (omega arith) (rw sub-zero h) ∙ ap Ok (let e : i * 1 + 0 ≡ i = omega arith in omega (arith, ints, ap f e))
 
   -- the first interval of a range, and the rest
   reads_first : (a b j : ℕ) → j ≤ n → a % 2 ^ j ≡ 0 → a + 2 ^ j ≤ b → b ≤ 2 ^ n → read_range m.bands n (look m) (a + 2 ^ j) b ≡ Ok (plain_sum f (a + 2 ^ j) (b - (a + 2 ^ j))) → read_all m.bands n (look m) (interval j (a / 2 ^ j) ∷ pieces n (a + 2 ^ j) b) ≡ Ok (plain_sum f a (b - a))
@@ -99,5 +99,5 @@ module _ (n : ℕ) (f : ℕ → ℤ) (m : Meaning) (some : 1 ≤ m.bands) (fits 
       (cases_lt a b)
 
   -- every range inside the size is read
-  pub reads-range : (a b : ℕ) → b ≤ 2 ^ n → read_range m.bands n (look m) a b ≡ Ok (plain_sum f a (b - a))
-  reads-range a b h = reads_more (b - a) a b (omega arith) h
+  pub reads_range : (a b : ℕ) → b ≤ 2 ^ n → read_range m.bands n (look m) a b ≡ Ok (plain_sum f a (b - a))
+  reads_range a b h = reads_more (b - a) a b (omega arith) h

@@ -2,11 +2,11 @@ use Rattle.std.proofs.Common.{◌≡◌, ◌+◌, ◌-◌, ◌<◌, ◌≤◌, �
 use Rattle.std.proofs.lemmas.Int.{to_z-of_z, ints}
 use Rattle.haar.specs.Tiles.{cell_count}
 use Rattle.haar.proofs.Load.{some_load}
-use Rattle.loads.proofs.Splits.{minutes-chunk}
+use Rattle.loads.proofs.Splits.{minutes_chunk}
 use Rattle.loads.specs.Loads.{Small}
 use Rattle.loads.proofs.Reading.{read_is, read_done, write_done}
 use Rattle.loads.proofs.Seen.{count_most}
-use Rattle.loads.proofs.Partly.{partly_start, cell_in, cell-open, sum_fits, new_is, partly-step, partly-end}
+use Rattle.loads.proofs.Partly.{partly_start, cell_in, cell_open, sum_fits, new_is, partly_step, partly_end}
 use Rattle.loads.proofs.cells.write_cells.Goals as goal
 
 pub loop-touch-init : goal.loop-touch-init
@@ -29,15 +29,15 @@ returns-in-err-write g c =
     let h : SFits w64 c.share-share.result = search rules in
     let l = cell_in _ _ _ _ _ c.args.reach.some c.args.reach.held _ _ _ c.loop-touch.invariant _ _ c.in-Some.ensures in
     let e = new_is _ _ _ _ _ c.args.reach.some c.args.reach.held _ _ _ c.loop-touch.invariant _ _ c.in-Some.ensures _ _ f h c.in-ok-number.ensures c.share-share.ensures c.requires.small in
-    let y = some_load _ _ _ _ _ _ c.args.reach.some c.args.reach.held c.args.reach.low (minutes-chunk _ _ _) in
-    absurd (write_done _ _ _ _ _ _ _ c.loop-touch.invariant.bands l (cell-open _ _ _ _ _ c.args.reach.some c.args.reach.held _ _ _ c.loop-touch.invariant _ _ c.in-Some.ensures y.0 y.1 (c.requires.room y.0 y.1) _ e) c.write.ensures c.in-err-write.was)
+    let y = some_load _ _ _ _ _ _ c.args.reach.some c.args.reach.held c.args.reach.low (minutes_chunk _ _ _) in
+    absurd (write_done _ _ _ _ _ _ _ c.loop-touch.invariant.bands l (cell_open _ _ _ _ _ c.args.reach.some c.args.reach.held _ _ _ c.loop-touch.invariant _ _ c.in-Some.ensures y.0 y.1 (c.requires.room y.0 y.1) _ e) c.write.ensures c.in-err-write.was)
 
 pub loop-touch-preserved : goal.loop-touch-preserved
 loop-touch-preserved g c =
     let f : SFits w64 c.in-ok-number.number = search rules in
     let h : SFits w64 c.share-share.result = search rules in
     let e = new_is _ _ _ _ _ c.args.reach.some c.args.reach.held _ _ _ c.loop-touch.invariant _ _ c.in-Some.ensures _ _ f h c.in-ok-number.ensures c.share-share.ensures c.requires.small in
-    partly-step _ _ _ _ _ c.args.reach.some c.args.reach.held _ _ _ c.loop-touch.invariant _ _ c.in-Some.ensures _ _ e (c.write.ensures.put c.in-ok-write.was)
+    partly_step _ _ _ _ _ c.args.reach.some c.args.reach.held _ _ _ c.loop-touch.invariant _ _ c.in-Some.ensures _ _ e (c.write.ensures.put c.in-ok-write.was)
 
 pub overflow_add-from : goal.overflow_add-from
 overflow_add-from g c =
@@ -45,4 +45,4 @@ overflow_add-from g c =
     omega (arith, count_most c.args.reach.bands c.args.reach.few)
 
 pub returns : goal.returns
-returns g c = record { done = refl; stored = partly-end _ _ _ _ _ c.args.reach.some c.args.reach.held _ _ _ c.loop-touch.invariant c.requires.bands c.in_default.ensures }
+returns g c = record { done = refl; stored = partly_end _ _ _ _ _ c.args.reach.some c.args.reach.held _ _ _ c.loop-touch.invariant c.requires.bands c.in_default.ensures }

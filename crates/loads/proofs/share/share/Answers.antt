@@ -8,7 +8,7 @@ use Rattle.haar.specs.Haar.{value}
 use Rattle.loads.specs.Reach.{Meets}
 use Rattle.loads.specs.Transform.{unhaar}
 use Rattle.loads.specs.Share.{minutes, alone}
-use Rattle.loads.proofs.Splits.{share-diff, share-sum, share-left, share-right, share-over}
+use Rattle.loads.proofs.Splits.{share_diff, share_sum, share_left, share_right, share_over}
 use Rattle.loads.proofs.share.share.Goals as goal
 
 pub returns-then-level-reach : goal.returns-then-level-reach
@@ -18,14 +18,14 @@ returns-then-level-reach c =
     let e = one_shl (c.args.reach.level - c.in-Difference.level) 32 (omega arith) in
     rw c.in-Difference.is
     (to_z-of_z w64 _ f ∙ c.difference_at.ensures ∙ ap (λ x. D (alone (unhaar c.args.reach.level c.args.numbers.now)) c.in-Difference.level (c.in-Difference.index % x)) e
-    ∙ share-diff _ _ _ _ _ _ me.inside.0 c.if-level-reach.true me)
+    ∙ share_diff _ _ _ _ _ _ me.inside.0 c.if-level-reach.true me)
 
 pub returns-then-reach-level-eq0 : goal.returns-then-reach-level-eq0
 returns-then-reach-level-eq0 c =
     let f : SFits w64 c.whole_sum-sum.result = search rules in
     let me : Meets c.args.reach.size c.args.reach.level c.args.reach.index ((Difference c.in-Difference.level c.in-Difference.index)) = rw c.in-Difference.is at c.requires.1 in
     rw c.in-Difference.is
-    (to_z-of_z w64 _ f ∙ c.whole_sum-sum.ensures.is ∙ share-left _ _ _ _ _ _ c.args.reach.low (omega arith) (omega arith) me)
+    (to_z-of_z w64 _ f ∙ c.whole_sum-sum.ensures.is ∙ share_left _ _ _ _ _ _ c.args.reach.low (omega arith) (omega arith) me)
 
 pub returns-else-reach-level-eq0 : goal.returns-else-reach-level-eq0
 returns-else-reach-level-eq0 c =
@@ -34,7 +34,7 @@ returns-else-reach-level-eq0 c =
     let me : Meets c.args.reach.size c.args.reach.level c.args.reach.index ((Difference c.in-Difference.level c.in-Difference.index)) = rw c.in-Difference.is at c.requires.1 in
     let z : pos 0 -ℤ c.whole_sum-sum.result ≡ neg_ℤ (S (alone (unhaar c.args.reach.level c.args.numbers.now)) c.args.reach.level 0) = omega (arith, ints, c.whole_sum-sum.ensures.is) in
     rw c.in-Difference.is
-    (simp to_z-of_z (z ∙ share-right _ _ _ _ _ _ c.args.reach.low (omega arith) (omega arith) me))
+    (simp to_z-of_z (z ∙ share_right _ _ _ _ _ _ c.args.reach.low (omega arith) (omega arith) me))
 
 pub returns-then-top-reach : goal.returns-then-top-reach
 returns-then-top-reach c =
@@ -43,11 +43,11 @@ returns-then-top-reach c =
     let e = one_shl (c.args.reach.level - (4 * c.in-TileSum.band + 4)) 32 (omega arith) in
     rw c.in-TileSum.is
     (to_z-of_z w64 _ f ∙ c.sum_at.ensures ∙ ap (λ x. S (alone (unhaar c.args.reach.level c.args.numbers.now)) (4 * c.in-TileSum.band + 4) (c.in-TileSum.tile % x)) e
-    ∙ share-sum _ _ _ _ _ _ (omega arith) c.args.reach.low me)
+    ∙ share_sum _ _ _ _ _ _ (omega arith) c.args.reach.low me)
 
 pub returns-else-top-reach : goal.returns-else-top-reach
 returns-else-top-reach c =
     let f : SFits w64 c.whole_sum.result = search rules in
     let me : Meets c.args.reach.size c.args.reach.level c.args.reach.index ((TileSum c.in-TileSum.band c.in-TileSum.tile)) = rw c.in-TileSum.is at c.requires.1 in
     rw c.in-TileSum.is
-    (to_z-of_z w64 _ f ∙ c.whole_sum.ensures.is ∙ share-over _ _ _ _ _ _ c.args.reach.low (omega arith) me)
+    (to_z-of_z w64 _ f ∙ c.whole_sum.ensures.is ∙ share_over _ _ _ _ _ _ c.args.reach.low (omega arith) me)

@@ -3,13 +3,13 @@ use Rattle.std.proofs.lemmas.Nat.{one_shl}
 use Rattle.std.proofs.lemmas.Result.{err_from_is_err_and}
 use Rattle.warehouse.specs.Read.{look}
 use Rattle.warehouse.proofs.Pieces.{below_top}
-use Rattle.warehouse.proofs.Progress.{so-far-none, small-sum, so-far-all, piece_small, piece_inside, piece-lost, piece-more}
+use Rattle.warehouse.proofs.Progress.{so_far_none, small_sum, so_far_all, piece_small, piece_inside, piece_lost, piece_more}
 use Rattle.warehouse.proofs.range.read_range.Goals as goal
 
 pub loop-at-init : goal.loop-at-init
 loop-at-init g c =
     let m = g.S.Store.means c.args.store.now in
-    so-far-none m.bands c.args.size (look m) c.args.from c.args.to c.requires.most c.requires.inside c.requires.order
+    so_far_none m.bands c.args.size (look m) c.args.from c.args.to c.requires.most c.requires.inside c.requires.order
 
 pub longest-level-requires : goal.longest-level-requires
 longest-level-requires g c = (c.requires.most, below_top _ _ _ c.requires.most c.requires.inside c.loop-at-test.true)
@@ -24,12 +24,12 @@ pub returns-in-err-piece : goal.returns-in-err-piece
 returns-in-err-piece g c =
     let m = g.S.Store.means c.args.store.now in
     let p = err_from_is_err_and c.from_residual.result c.from_residual.ensures.1 in
-    rw (p.1, p.2) (piece-lost m.bands _ (look m) _ _ c.requires.most c.requires.inside _ _ c.loop-at.invariant c.loop-at-test.true _ c.longest-level.ensures.is c.in-err-piece.field-0.0 (sym c.read_piece.ensures ∙ c.in-err-piece.was))
+    rw (p.1, p.2) (piece_lost m.bands _ (look m) _ _ c.requires.most c.requires.inside _ _ c.loop-at.invariant c.loop-at-test.true _ c.longest-level.ensures.is c.in-err-piece.field-0.0 (sym c.read_piece.ensures ∙ c.in-err-piece.was))
 
 pub joined-sum-requires : goal.joined-sum-requires
 joined-sum-requires g c =
     let m = g.S.Store.means c.args.store.now in
-    let s = small-sum m.bands _ (look m) _ _ c.requires.most c.requires.inside _ _ c.loop-at.invariant in
+    let s = small_sum m.bands _ (look m) _ _ c.requires.most c.requires.inside _ _ c.loop-at.invariant in
     let p = piece_small m.bands c.args.size (look m) _ _ c.in-ok-piece.piece (sym c.read_piece.ensures ∙ c.in-ok-piece.was) in
     (s.0, (p.0, omega (arith, s.1, p.1)))
 
@@ -38,10 +38,10 @@ loop-at-preserved g c =
     let m = g.S.Store.means c.args.store.now in
     let low = c.longest-level.ensures.low in
     let e = one_shl c.longest-level.result 32 (omega arith) in
-    piece-more m.bands _ (look m) _ _ c.requires.most c.requires.inside _ _ c.loop-at.invariant c.loop-at-test.true _ c.longest-level.ensures.is
+    piece_more m.bands _ (look m) _ _ c.requires.most c.requires.inside _ _ c.loop-at.invariant c.loop-at-test.true _ c.longest-level.ensures.is
     c.in-ok-piece.piece _ _ (sym c.read_piece.ensures ∙ c.in-ok-piece.was) (omega arith) c.joined-sum.ensures
 
 pub returns : goal.returns
 returns g c =
     let m = g.S.Store.means c.args.store.now in
-    so-far-all m.bands _ (look m) _ _ c.requires.most c.requires.inside _ _ c.loop-at.invariant c.loop-at-test.false
+    so_far_all m.bands _ (look m) _ _ c.requires.most c.requires.inside _ _ c.loop-at.invariant c.loop-at-test.false

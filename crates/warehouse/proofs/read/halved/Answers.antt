@@ -1,16 +1,16 @@
 use Rattle.std.proofs.Common.{◌≡◌, ◌%◌, ◌+ℤ◌, nat_abs, arith}
 use Rattle.std.proofs.lemmas.Int.{ints}
-use Rattle.warehouse.proofs.Halves.{left-half, right-half}
+use Rattle.warehouse.proofs.Halves.{left_half, right_half}
 use Rattle.warehouse.proofs.read.halved.Goals as goal
 
 pub returns-then-index-eq0 : goal.returns-then-index-eq0
 returns-then-index-eq0 c =
     let h = c.if-both-ne0.false in
     let even : nat_abs (c.args.sum +ℤ c.args.difference) % 2 ≡ 0 = omega (arith, ints) in
-    left-half c.args.cell c.args.index c.args.sum c.args.difference c.requires.0 c.requires.1 c.ranges.sum c.ranges.difference even c.if-index-eq0.true
+    left_half c.args.cell c.args.index c.args.sum c.args.difference c.requires.0 c.requires.1 c.ranges.sum c.ranges.difference even c.if-index-eq0.true
 
 pub returns-else-index-eq0 : goal.returns-else-index-eq0
 returns-else-index-eq0 c =
     let h = c.if-both-ne0.false in
     let even : nat_abs (c.args.sum +ℤ c.args.difference) % 2 ≡ 0 = omega (arith, ints) in
-    right-half c.args.cell c.args.index c.args.sum c.args.difference c.requires.0 c.requires.1 c.ranges.sum c.ranges.difference even c.if-index-eq0.false
+    right_half c.args.cell c.args.index c.args.sum c.args.difference c.requires.0 c.requires.1 c.ranges.sum c.ranges.difference even c.if-index-eq0.false

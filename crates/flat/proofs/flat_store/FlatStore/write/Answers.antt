@@ -18,8 +18,8 @@ zeros_after-zeros-requires c =
       counted = λ z. omega (arith, s.counted, filled_less (number_at s.numbers.now) _ _ i (ap weight (sym (to_z-of_z w64 _ f)) ∙ z));
     }
 
-pub invariant-of-self : goal.invariant-of-self
-invariant-of-self c =
+pub invariant_of-self : goal.invariant_of-self
+invariant_of-self c =
     let s = c.args.self.now in
     let i : c.args.cell < cell_count s.bands = search rules in
     let f : SFits w64 (number_at s.numbers.now c.args.cell) = search rules in

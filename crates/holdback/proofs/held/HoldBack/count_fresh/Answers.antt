@@ -1,5 +1,5 @@
 use Rattle.std.proofs.Common.{arith}
-use Rattle.holdback.proofs.Counted.{fresh_none, fresh-yes, fresh-no}
+use Rattle.holdback.proofs.Counted.{fresh_none, fresh_yes, fresh_no}
 use Rattle.holdback.proofs.held.HoldBack.count_fresh.Goals as goal
 use Rattle.holdback.proofs.held.HoldBack.count_fresh.Goals.{then-is_zero_below, else-is_zero_below}
 
@@ -12,9 +12,9 @@ loop-i-preserved g c =
     let held = c.args.self.now.held in
     elim c.if-is_zero_below.branch [
       | then-is_zero_below w ↦
-          let e = fresh-yes below held c.loop-i.i _ c.is_zero_below.ensures w.if-is_zero_below.true in
+          let e = fresh_yes below held c.loop-i.i _ c.is_zero_below.ensures w.if-is_zero_below.true in
           (omega (arith, w.count-is), omega (arith, w.count-is))
       | else-is_zero_below w ↦
-          let e = fresh-no below held c.loop-i.i _ c.is_zero_below.ensures w.if-is_zero_below.false in
+          let e = fresh_no below held c.loop-i.i _ c.is_zero_below.ensures w.if-is_zero_below.false in
           (omega (arith, w.count-is), omega (arith, w.count-is))
     ]

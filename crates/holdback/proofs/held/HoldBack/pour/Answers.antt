@@ -4,7 +4,7 @@ use Rattle.store.specs.declared.entry.Entry.{Entry}
 use Rattle.store.specs.Meaning.{Writes}
 use Rattle.store.specs.Table.{entry_at}
 use Rattle.holdback.proofs.Tidy.{tidy}
-use Rattle.holdback.proofs.Poured.{pour_none, pour-step}
+use Rattle.holdback.proofs.Poured.{pour_none, pour_step}
 use Rattle.holdback.proofs.held.HoldBack.pour.Goals as goal
 
 pub loop-i-init : goal.loop-i-init
@@ -16,6 +16,6 @@ loop-i-preserved g c =
     let W : List Entry → Type 0 = λ es. Writes (g.S.Store.means c.loop-i.self.below) (entry_at es c.loop-i.i).cell (entry_at es c.loop-i.i).value c.write.result
     (g.S.Store.means c.write.new.self) in
     let w = subst W c.loop-i.invariant.0 (simp to_z-of_z at c.write.ensures) in
-    let step = pour-step (g.S.Store.means c.args.self.now.below) c.args.self.now.held c.args.self.now.used (tidy c.args.self.now) c.requires
+    let step = pour_step (g.S.Store.means c.args.self.now.below) c.args.self.now.held c.args.self.now.used (tidy c.args.self.now) c.requires
     (g.S.Store.means c.loop-i.self.below) (g.S.Store.means c.write.new.self) c.loop-i.i c.write.result (omega arith) c.loop-i.invariant.2 w in
     (c.loop-i.invariant.0, c.loop-i.invariant.1, step)

@@ -3,7 +3,7 @@ use Rattle.std.proofs.lemmas.Int.{to_z-of_z}
 use Rattle.store.specs.Table.{entry_at}
 use Rattle.store.proofs.Lookups.{gap_lacks}
 use Rattle.holdback.proofs.Tidy.{tidy}
-use Rattle.holdback.proofs.Calls.{reads_held, reads-below}
+use Rattle.holdback.proofs.Calls.{reads_held, reads_below}
 use Rattle.holdback.proofs.layer.HoldBackStore.read.Goals as goal
 
 pub returns-in-Ok : goal.returns-in-Ok
@@ -14,4 +14,4 @@ returns-in-Ok g c =
 pub returns-in-Err : goal.returns-in-Err
 returns-in-Err g c =
     let f : SFits w64 c.in-ok-below.below = search rules in
-    simp to_z-of_z (reads-below _ _ _ _ _ c.in-ok-below.ensures (gap_lacks _ _ _ _ c.in-Err.ensures))
+    simp to_z-of_z (reads_below _ _ _ _ _ c.in-ok-below.ensures (gap_lacks _ _ _ _ c.in-Err.ensures))

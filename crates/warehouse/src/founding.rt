@@ -12,8 +12,8 @@ use store::interface::Store;
 
 // The lowest of the cells below `count` that is not zero.
 fn lowest_nonzero<S: Store>(store: &S, count: u32) -> Option<u32>
-    requires { count ≡ cell_count (means store.now).bands }
-    ensures { elim result [ Some c ↦ (c < count) × ((means store.now).cells c ≢ pos 0) × Empty (means store.now) c | None ↦ Empty (means store.now) count ] }
+    requires { count ≡ cell_count (S.means store.now).bands }
+    ensures { elim result [ Some c ↦ (c < count) × ((S.means store.now).cells c ≢ pos 0) × Empty (S.means store.now) c | None ↦ Empty (S.means store.now) count ] }
 {
     for cell in 0..count {
         if let Ok(number) = store.read(cell) {
@@ -26,7 +26,7 @@ fn lowest_nonzero<S: Store>(store: &S, count: u32) -> Option<u32>
 }
 
 fn surveyed<S: Store>(store: &S, size: u8) -> Result<(), Fault>
-    ensures { Surveyed (means store.now) size result }
+    ensures { Surveyed (S.means store.now) size result }
 {
     let bands = store.bands();
     if bands == 0 || size > 4 * bands {
@@ -44,7 +44,7 @@ fn surveyed<S: Store>(store: &S, size: u8) -> Result<(), Fault>
 
 // Whether a warehouse of this size can be founded on the store.
 pub fn survey<S: Store>(store: &S, size: u8) -> Result<(), Refusal>
-    ensures { Surveys (means store.now) size result }
+    ensures { Surveys (S.means store.now) size result }
 {
     asking(surveyed(store, size), Asked::Size(size))?;
     Ok(())
@@ -54,7 +54,7 @@ impl<S: Store> Warehouse<S> {
     // A warehouse on the store, whatever it holds.
     pub fn take_over(store: S, size: u8) -> Warehouse<S>
         ensures store { result.store ≡ store }
-        ensures size { result.asked ≡ cut (means store) size }
+        ensures size { result.asked ≡ cut (S.means store) size }
     {
         let most = 4 * store.bands();
         Warehouse {
@@ -64,7 +64,7 @@ impl<S: Store> Warehouse<S> {
     }
 
     pub fn settle(&mut self)
-        ensures store { Settles (means self.old.store) (means self.new.store) }
+        ensures store { Settles (S.means self.old.store) (S.means self.new.store) }
         ensures size { self.new.asked ≡ self.old.asked }
     {
         self.store.settle();
@@ -72,7 +72,7 @@ impl<S: Store> Warehouse<S> {
 
     // The store, settled.
     pub fn close(self) -> S
-        ensures { Settles (means self.store) (means result) }
+        ensures { Settles (S.means self.store) (S.means result) }
     {
         let Warehouse {
             mut store,

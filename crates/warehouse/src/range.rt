@@ -51,9 +51,9 @@ pub(crate) fn read_range<S: Store>(
 ) -> Result<Reading, Fault>
     requires order { from ≤ to }
     requires inside { to ≤ 2 ^ size }
-    requires fits { size ≤ 4 * (means store.now).bands }
+    requires fits { size ≤ 4 * (S.means store.now).bands }
     requires most { size ≤ 20 }
-    ensures { result ≡ range_reading (means store.now).bands size (look (means store.now)) from to }
+    ensures { result ≡ range_reading (S.means store.now).bands size (look (S.means store.now)) from to }
 {
     let mut sum = Reading { value: 0, cells: 0 };
     let mut at = from;

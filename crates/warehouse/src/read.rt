@@ -14,7 +14,7 @@ const LIMIT: u64 = 1 << 56;
 
 // One cell's number, as a part of a sum.
 fn seen<S: Store>(store: &S, cell: u32) -> Result<i64, Fault>
-    ensures { result ≡ sight cell (look (means store.now) cell) }
+    ensures { result ≡ sight cell (look (S.means store.now) cell) }
 {
     let value = store.read(cell)?;
     if value.unsigned_abs() > LIMIT {
@@ -41,9 +41,9 @@ fn halved(cell: u32, index: u32, sum: i64, difference: i64) -> Result<i64, Fault
 
 // S(level, index), from the sum above it.
 fn lowered<S: Store>(store: &S, level: u8, index: u32, above: i64) -> Result<i64, Fault>
-    requires tree { InTree (means store.now).bands (suc level) (index / 2) }
+    requires tree { InTree (S.means store.now).bands (suc level) (index / 2) }
     requires small { unsigned_abs above ≤ 2 ^ 56 }
-    ensures { result ≡ lower (means store.now).bands (look (means store.now)) level index above }
+    ensures { result ≡ lower (S.means store.now).bands (look (S.means store.now)) level index above }
 {
     let cell = difference_cell(store.bands(), level + 1, index / 2).unwrap();
     let difference = seen(store, cell)?;
@@ -64,9 +64,9 @@ fn reading_start(size: u8, level: u8) -> u8
 // S(level, index), from slot 0 of the tile over it.
 pub(crate) fn read_sum<S: Store>(store: &S, size: u8, level: u8, index: u32) -> Result<i64, Fault>
     requires low { level ≤ size }
-    requires fits { size ≤ 4 * (means store.now).bands }
+    requires fits { size ≤ 4 * (S.means store.now).bands }
     requires inside { index < 2 ^ (size - level) }
-    ensures { result ≡ read (means store.now).bands size (look (means store.now)) level index }
+    ensures { result ≡ read (S.means store.now).bands size (look (S.means store.now)) level index }
 {
     let first = sum_cell(store.bands(), level, index).unwrap();
     let mut sum = seen(store, first)?;
@@ -84,9 +84,9 @@ pub(crate) fn read_piece<S: Store>(
     index: u32,
 ) -> Result<Reading, Fault>
     requires low { level ≤ size }
-    requires fits { size ≤ 4 * (means store.now).bands }
+    requires fits { size ≤ 4 * (S.means store.now).bands }
     requires inside { index < 2 ^ (size - level) }
-    ensures { result ≡ piece (means store.now).bands size (look (means store.now)) level index }
+    ensures { result ≡ piece (S.means store.now).bands size (look (S.means store.now)) level index }
 {
     let value = read_sum(store, size, level, index)?;
     let cells = 1 + (reading_start(size, level) - level) as u32;

@@ -53,7 +53,7 @@ fn grade(cell: u32, difference: i64, level: u8) -> Result<Trend, Fault>
 // The trend of the difference in a cell.
 fn grade_cell<S: Store>(store: &S, cell: u32, level: u8) -> Result<Trend, Fault>
     requires { (1 ≤ level) × (level ≤ 20) }
-    ensures { result ≡ graded_in (means store.now) level cell }
+    ensures { result ≡ graded_in (S.means store.now) level cell }
 {
     let difference = store.read(cell)?;
     grade(cell, difference, level)
@@ -61,10 +61,10 @@ fn grade_cell<S: Store>(store: &S, cell: u32, level: u8) -> Result<Trend, Fault>
 
 // The trend of D(level, index).
 fn trend_at<S: Store>(store: &S, level: u8, index: u32) -> Result<Trend, Fault>
-    requires tree { InTree (means store.now).bands level index }
+    requires tree { InTree (S.means store.now).bands level index }
     requires some { 1 ≤ level }
     requires most { level ≤ 20 }
-    ensures { result ≡ graded_at (means store.now) level index }
+    ensures { result ≡ graded_at (S.means store.now) level index }
 {
     let cell = difference_cell(store.bands(), level, index).unwrap();
     grade_cell(store, cell, level)
@@ -80,7 +80,7 @@ fn lies(size: u8, level: u8, index: u32) -> bool
 impl<S: Store> Warehouse<S> {
     // How the halves of the interval (level, index) compare.
     pub fn trend(&self, level: u8, index: u32) -> Result<Trend, Refusal>
-        ensures { result ≡ trend_answer (view (means self.now.store) self.now.asked) level index }
+        ensures { result ≡ trend_answer (view (S.means self.now.store) self.now.asked) level index }
     {
         Ok(asking(
             self.trend_reading(level, index),
@@ -89,7 +89,7 @@ impl<S: Store> Warehouse<S> {
     }
 
     fn trend_reading(&self, level: u8, index: u32) -> Result<Trend, Fault>
-        ensures { result ≡ trend_reading (view (means self.now.store) self.now.asked) level index }
+        ensures { result ≡ trend_reading (view (S.means self.now.store) self.now.asked) level index }
     {
         if level == 0 || level > 20 {
             return Err(Fault::Interval);

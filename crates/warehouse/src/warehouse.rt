@@ -9,9 +9,9 @@ use store::interface::Store;
 impl<S: Store> Warehouse<S> {
     // The size asked for, cut to what the store's bands can have.
     pub fn size(&self) -> u8
-        ensures is { result ≡ (view (means self.now.store) self.now.asked).size }
+        ensures is { result ≡ (view (S.means self.now.store) self.now.asked).size }
         ensures most { result ≤ 20 }
-        ensures lawful { Lawful (means self.now.store) }
+        ensures lawful { Lawful (S.means self.now.store) }
     {
         self.asked.min(4 * self.store.bands())
     }

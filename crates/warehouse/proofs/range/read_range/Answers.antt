@@ -30,7 +30,7 @@ pub joined-sum-requires : goal.joined-sum-requires
 joined-sum-requires g c =
     let m = g.S.Store.means c.args.store.now in
     let s = small_sum m.bands _ (look m) _ _ c.requires.most c.requires.inside _ _ c.loop-at.invariant in
-    let p = piece_small m.bands c.args.size (look m) _ _ c.in-ok-piece.piece (sym c.read_piece.ensures ∙ c.in-ok-piece.was) in
+    let p = piece_small m.bands c.args.size (look m) _ _ c.in_ok-piece.piece (sym c.read_piece.ensures ∙ c.in_ok-piece.was) in
     (s.0, (p.0, omega (arith, s.1, p.1)))
 
 pub loop-at-preserved : goal.loop-at-preserved
@@ -39,7 +39,7 @@ loop-at-preserved g c =
     let low = c.longest-level.ensures.low in
     let e = one_shl c.longest-level.result 32 (omega arith) in
     piece_more m.bands _ (look m) _ _ c.requires.most c.requires.inside _ _ c.loop-at.invariant c.loop-at-test.true _ c.longest-level.ensures.is
-    c.in-ok-piece.piece _ _ (sym c.read_piece.ensures ∙ c.in-ok-piece.was) (omega arith) c.joined-sum.ensures
+    c.in_ok-piece.piece _ _ (sym c.read_piece.ensures ∙ c.in_ok-piece.was) (omega arith) c.joined-sum.ensures
 
 pub returns : goal.returns
 returns g c =

@@ -16,7 +16,7 @@ pub returns : goal.returns
 returns g c =
     let m = g.S.Store.means c.args.store.now in
     let e = cell_beside m.bands _ _ c.args.index _ _ c.bands.ensures.is c.requires.tree c.difference_cell.ensures c.unwrap-cell.ensures in
-    let f : SFits w64 c.in-ok-difference.difference = search rules in
-    c.halved.ensures ∙ ap₂ (halve c.unwrap-cell.result c.args.index) (to_z-of_z w64 c.args.above c.ranges.above) (to_z-of_z w64 c.in-ok-difference.difference f)
-    ∙ ap (λ r. ◌then◌ r (halve c.unwrap-cell.result c.args.index c.args.above)) (sym c.in-ok-difference.was ∙ c.seen.ensures)
+    let f : SFits w64 c.in_ok-difference.difference = search rules in
+    c.halved.ensures ∙ ap₂ (halve c.unwrap-cell.result c.args.index) (to_z-of_z w64 c.args.above c.ranges.above) (to_z-of_z w64 c.in_ok-difference.difference f)
+    ∙ ap (λ r. ◌then◌ r (halve c.unwrap-cell.result c.args.index c.args.above)) (sym c.in_ok-difference.was ∙ c.seen.ensures)
     ∙ lower_at m.bands (look m) c.args.level c.args.index _ c.args.above e

@@ -23,11 +23,11 @@ returns-in-err-sum g c =
 pub loop-below-init : goal.loop-below-init
 loop-below-init g c =
     let m = g.S.Store.means c.args.store.now in
-    let f : SFits w64 c.in-ok-sum.sum = search rules in
+    let f : SFits w64 c.in_ok-sum.sum = search rules in
     let t = tree_here m.bands c.args.size c.args.level c.args.index c.bands.ensures.lawful.few c.requires.low c.requires.fits c.requires.inside in
     let e = first_found m.bands _ _ _ _ c.bands.ensures.is t c.sum_cell.ensures _ c.unwrap-first.ensures in
     let r = c.reading_start.ensures.is in
-    ap Ok (to_z-of_z w64 c.in-ok-sum.sum f) ∙ sym c.in-ok-sum.was ∙ c.seen.ensures
+    ap Ok (to_z-of_z w64 c.in_ok-sum.sum f) ∙ sym c.in_ok-sum.was ∙ c.seen.ensures
     ∙ way_first m.bands c.args.size (look m) c.args.level c.args.index _ _ e (omega arith)
 
 pub lowered-requires : goal.lowered-requires
@@ -53,11 +53,11 @@ returns-in-err-sum-2 g c =
 pub loop-below-preserved : goal.loop-below-preserved
 loop-below-preserved g c =
     let m = g.S.Store.means c.args.store.now in
-    let f : SFits w64 c.in-ok-sum-2.sum = search rules in
+    let f : SFits w64 c.in_ok-sum-2.sum = search rules in
     let r = c.reading_start.ensures.is in
     let k = c.loop-below.auto.below in
     let e = way_down m.bands c.args.size (look m) c.args.level c.args.index c.loop-below.below _ c.loop-below-test.true (omega arith) c.loop-below.invariant in
-    ap Ok (to_z-of_z w64 c.in-ok-sum-2.sum f) ∙ sym c.in-ok-sum-2.was ∙ c.lowered.ensures ∙ e
+    ap Ok (to_z-of_z w64 c.in_ok-sum-2.sum f) ∙ sym c.in_ok-sum-2.was ∙ c.lowered.ensures ∙ e
 
 pub returns : goal.returns
 returns g c =

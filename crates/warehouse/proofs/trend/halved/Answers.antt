@@ -9,7 +9,7 @@ loop-i-init c = refl
 
 pub loop-i-preserved : goal.loop-i-preserved
 loop-i-preserved c =
-    let e : (c.loop-i.-i - 1) + 1 ≡ c.loop-i.-i + 1 - 1 = omega arith in
+    let e : (c.loop-i._i - 1) + 1 ≡ c.loop-i._i + 1 - 1 = omega arith in
     ap (λ (x : Float). div binary64 x two) c.loop-i.invariant
-    ∙ halve c.args.size (c.loop-i.-i - 1) c.requires.0 (omega arith)
+    ∙ halve c.args.size (c.loop-i._i - 1) c.requires.0 (omega arith)
     ∙ ap (λ (k : ℕ). round binary64 false c.args.size (2 ^ k)) e

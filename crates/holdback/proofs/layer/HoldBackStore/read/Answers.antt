@@ -9,9 +9,9 @@ use Rattle.holdback.proofs.layer.HoldBackStore.read.Goals as goal
 pub returns-in-Ok : goal.returns-in-Ok
 returns-in-Ok g c =
     let f : SFits w64 (entry_at c.args.self.now.held c.in-Ok.at).value = search rules in
-    reads_held (g.S.Store.means c.args.self.now.below) _ _ _ _ c.in-ok-below.ensures _ _ (to_z-of_z w64 _ f) (tidy c.args.self.now) c.in-Ok.ensures
+    reads_held (g.S.Store.means c.args.self.now.below) _ _ _ _ c.in_ok-below.ensures _ _ (to_z-of_z w64 _ f) (tidy c.args.self.now) c.in-Ok.ensures
 
 pub returns-in-Err : goal.returns-in-Err
 returns-in-Err g c =
-    let f : SFits w64 c.in-ok-below.below = search rules in
-    simp to_z-of_z (reads_below _ _ _ _ _ c.in-ok-below.ensures (gap_lacks _ _ _ _ c.in-Err.ensures))
+    let f : SFits w64 c.in_ok-below.below = search rules in
+    simp to_z-of_z (reads_below _ _ _ _ _ c.in_ok-below.ensures (gap_lacks _ _ _ _ c.in-Err.ensures))

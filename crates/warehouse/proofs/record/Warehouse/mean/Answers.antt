@@ -14,4 +14,4 @@ returns-in-err-asking g c =
 pub returns : goal.returns
 unfolding mean_answer
 returns g c =
-    answered c.mean_reading.result (Minutes c.args.from c.args.to) _ (sym c.asking.ensures ∙ c.in-ok-asking.was) ∙ ap (refused (Minutes c.args.from c.args.to)) c.mean_reading.ensures
+    answered c.mean_reading.result (Minutes c.args.from c.args.to) _ (sym c.asking.ensures ∙ c.in_ok-asking.was) ∙ ap (refused (Minutes c.args.from c.args.to)) c.mean_reading.ensures

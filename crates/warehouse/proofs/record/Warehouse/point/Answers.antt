@@ -14,4 +14,4 @@ returns-in-err-asking g c =
 pub returns : goal.returns
 unfolding point_answer
 returns g c =
-    answered c.point_reading.result (Minute c.args.minute) _ (sym c.asking.ensures ∙ c.in-ok-asking.was) ∙ ap (refused (Minute c.args.minute)) c.point_reading.ensures
+    answered c.point_reading.result (Minute c.args.minute) _ (sym c.asking.ensures ∙ c.in_ok-asking.was) ∙ ap (refused (Minute c.args.minute)) c.point_reading.ensures

@@ -15,4 +15,4 @@ returns-in-err-asking g c =
 pub returns : goal.returns
 unfolding trend_answer
 returns g c =
-    answered c.trend_reading.result (Interval c.args.level c.args.index) _ (sym c.asking.ensures ∙ c.in-ok-asking.was) ∙ ap (refused (Interval c.args.level c.args.index)) c.trend_reading.ensures
+    answered c.trend_reading.result (Interval c.args.level c.args.index) _ (sym c.asking.ensures ∙ c.in_ok-asking.was) ∙ ap (refused (Interval c.args.level c.args.index)) c.trend_reading.ensures

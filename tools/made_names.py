@@ -8,7 +8,7 @@ for f in glob.glob(top + '/crates/*/src/**/*.rt', recursive=True):
     t = open(f).read()
     t = re.sub(r'//.*', '', t)
     idents |= {w for w in re.findall(r"[A-Za-z][A-Za-z0-9]*(?:_[A-Za-z0-9]+)+", t)}
-idents |= {'into_iter', 'from_residual', 'unsigned_abs', 'in_default', 'push_within_capacity', 'copy_from_slice', 'add_assign', 'sub_assign', 'index_mut', 'invariant_of', 'offset_bounds', 'split_at_mut'}
+idents |= {'into_iter', 'from_residual', 'unsigned_abs', 'in_default', 'push_within_capacity', 'copy_from_slice', 'add_assign', 'sub_assign', 'index_mut', 'invariant_of', 'in_err', 'in_ok', 'in_some', 'in_none', 'offset_bounds', 'split_at_mut'}
 for op in 'add sub mul div rem cast shl shr neg'.split():
     idents |= {'overflow_' + op, 'nonzero_' + op}
 def conv(tok):

@@ -2,6 +2,7 @@
 use Rattle.std.proofs.Common.{◌≡◌, ℕ, ◌+◌, ◌-◌, ◌<◌, ◌≤◌, List, length, set, pos, sym, ap, ◌∙◌, inl, inr, arith}
 use Rattle.std.proofs.lemmas.Bool.{cases_eq, cases_lt, cases_order}
 use Rattle.store.specs.declared.entry.Entry.{Entry}
+use Rattle.store.specs.declared.interface.Store
 use Rattle.store.specs.Table.{entry_at, Ascends, Nonzero, Gap, Inserted}
 use Rattle.holdback.specs.declared.held.HoldBack.{HoldBack}
 use Rattle.store.proofs.Inserting.{ascends_more, ascends_less}
@@ -11,7 +12,7 @@ pub record Tidy (es : List Entry) (n : ℕ) : Type 0 where
   pub ascends : Ascends es n
   pub nonzero : Nonzero es n
 
-pub tidy : {S : Type 0} (h : HoldBack S) → Tidy h.held h.used
+pub tidy : {S : Type 0} {g : Store.Ghosts S} (h : HoldBack S g) → Tidy h.held h.used
 tidy h = record { ascends = h.ascends; nonzero = h.nonzero }
 
 -- fewer of the entries

@@ -20,11 +20,11 @@ read_piece-requires g c =
     let p = piece_inside m.bands _ (look m) _ _ c.requires.most c.requires.inside _ _ c.loop-at.invariant c.loop-at-test.true _ c.longest-level.ensures.is in
     record { low = p.0; fits = c.requires.fits; inside = p.1 }
 
-pub returns-in-err-piece : goal.returns-in-err-piece
-returns-in-err-piece g c =
+pub returns-in_err-piece : goal.returns-in_err-piece
+returns-in_err-piece g c =
     let m = g.S.Store.means c.args.store.now in
     let p = err_from_is_err_and c.from_residual.result c.from_residual.ensures.1 in
-    rw (p.1, p.2) (piece_lost m.bands _ (look m) _ _ c.requires.most c.requires.inside _ _ c.loop-at.invariant c.loop-at-test.true _ c.longest-level.ensures.is c.in-err-piece.field-0.0 (sym c.read_piece.ensures ∙ c.in-err-piece.was))
+    rw (p.1, p.2) (piece_lost m.bands _ (look m) _ _ c.requires.most c.requires.inside _ _ c.loop-at.invariant c.loop-at-test.true _ c.longest-level.ensures.is c.in_err-piece.field-0.0 (sym c.read_piece.ensures ∙ c.in_err-piece.was))
 
 pub joined-sum-requires : goal.joined-sum-requires
 joined-sum-requires g c =

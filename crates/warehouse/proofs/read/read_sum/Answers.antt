@@ -11,14 +11,14 @@ unwrap-first-requires g c =
     let t = tree_here m.bands c.args.size c.args.level c.args.index c.bands.ensures.lawful.few c.requires.low c.requires.fits c.requires.inside in
     first_there m.bands _ _ _ _ c.bands.ensures.is t c.sum_cell.ensures
 
-pub returns-in-err-sum : goal.returns-in-err-sum
-returns-in-err-sum g c =
+pub returns-in_err-sum : goal.returns-in_err-sum
+returns-in_err-sum g c =
     let m = g.S.Store.means c.args.store.now in
     let p = err_from_is_err_and c.from_residual.result c.from_residual.ensures.1 in
     let t = tree_here m.bands c.args.size c.args.level c.args.index c.bands.ensures.lawful.few c.requires.low c.requires.fits c.requires.inside in
     let e = first_found m.bands _ _ _ _ c.bands.ensures.is t c.sum_cell.ensures _ c.unwrap-first.ensures in
-    rw (p.1, p.2) (way_lost m.bands c.args.size (look m) c.args.level c.args.index (start c.args.size c.args.level - c.args.level) c.in-err-sum.field-0.0 (omega arith)
-    (sym c.in-err-sum.was ∙ c.seen.ensures ∙ way_first m.bands c.args.size (look m) c.args.level c.args.index _ _ e refl))
+    rw (p.1, p.2) (way_lost m.bands c.args.size (look m) c.args.level c.args.index (start c.args.size c.args.level - c.args.level) c.in_err-sum.field-0.0 (omega arith)
+    (sym c.in_err-sum.was ∙ c.seen.ensures ∙ way_first m.bands c.args.size (look m) c.args.level c.args.index _ _ e refl))
 
 pub loop-below-init : goal.loop-below-init
 loop-below-init g c =
@@ -41,14 +41,14 @@ lowered-requires g c =
       small = way_small m.bands c.args.size (look m) c.args.level c.args.index c.loop-below.below _ c.loop-below.invariant;
     }
 
-pub returns-in-err-sum-2 : goal.returns-in-err-sum-2
-returns-in-err-sum-2 g c =
+pub returns-in_err-sum-2 : goal.returns-in_err-sum-2
+returns-in_err-sum-2 g c =
     let m = g.S.Store.means c.args.store.now in
-    let p = err_from_is_err_and c.from_residual-in-err-sum-2.result c.from_residual-in-err-sum-2.ensures.1 in
+    let p = err_from_is_err_and c.from_residual-in_err-sum-2.result c.from_residual-in_err-sum-2.ensures.1 in
     let r = c.reading_start.ensures.is in
     let k = c.loop-below.auto.below in
     let e = way_down m.bands c.args.size (look m) c.args.level c.args.index c.loop-below.below _ c.loop-below-test.true (omega arith) c.loop-below.invariant in
-    rw (p.1, p.2) (way_lost m.bands c.args.size (look m) c.args.level c.args.index (c.loop-below.below - 1) c.in-err-sum-2.field-0.0 (omega arith) (sym c.in-err-sum-2.was ∙ c.lowered.ensures ∙ e))
+    rw (p.1, p.2) (way_lost m.bands c.args.size (look m) c.args.level c.args.index (c.loop-below.below - 1) c.in_err-sum-2.field-0.0 (omega arith) (sym c.in_err-sum-2.was ∙ c.lowered.ensures ∙ e))
 
 pub loop-below-preserved : goal.loop-below-preserved
 loop-below-preserved g c =

@@ -5,8 +5,8 @@ use Rattle.console.proofs.window.Window.fill.Goals as goal
 
 pub returns : goal.returns
 returns g c =
-    let gave = c.in-ok-many.ensures in
-    let n = c.in-ok-many.many in
+    let gave = c.in_ok-many.ensures in
+    let n = c.in_ok-many.many in
     let ys = c.read.new.buffer in
     record {
       got = take n ys;

@@ -36,8 +36,8 @@ pub(crate) fn starts(number: i64, new: i64) -> u32
 
 // how many touched cells go from zero to nonzero, or the lowest whose new number is too large
 pub(crate) fn check_cells<S: Store>(store: &S, reach: Reach, numbers: &[i64]) -> Result<u32, u32>
-    requires { (Ready reach.level numbers.now) × ((means store.now).bands ≡ reach.bands) }
-    ensures { Checked reach.bands reach.size reach.level reach.index (minutes reach.level reach.index (unhaar reach.level numbers.now)) (means store.now).cells result }
+    requires { (Ready reach.level numbers.now) × ((S.means store.now).bands ≡ reach.bands) }
+    ensures { Checked reach.bands reach.size reach.level reach.index (minutes reach.level reach.index (unhaar reach.level numbers.now)) (S.means store.now).cells result }
 {
     let mut from = 0;
     let mut started = 0;
@@ -60,11 +60,11 @@ pub(crate) fn write_cells<S: Store>(
     numbers: &[i64],
 ) -> Result<(), CellFault>
     requires ready { Ready reach.level numbers.now }
-    requires bands { (means store.old).bands ≡ reach.bands }
-    requires small { Clear reach.bands reach.size reach.level reach.index (minutes reach.level reach.index (unhaar reach.level numbers.now)) (means store.old).cells (cell_count reach.bands) }
-    requires room { (y : ℕ → ℤ) → Loaded reach.bands reach.size reach.level reach.index (minutes reach.level reach.index (unhaar reach.level numbers.now)) (means store.old).cells y → pos (fresh (means store.old).cells y (cell_count reach.bands)) ≤ℤ (means store.old).room }
+    requires bands { (S.means store.old).bands ≡ reach.bands }
+    requires small { Clear reach.bands reach.size reach.level reach.index (minutes reach.level reach.index (unhaar reach.level numbers.now)) (S.means store.old).cells (cell_count reach.bands) }
+    requires room { (y : ℕ → ℤ) → Loaded reach.bands reach.size reach.level reach.index (minutes reach.level reach.index (unhaar reach.level numbers.now)) (S.means store.old).cells y → pos (fresh (S.means store.old).cells y (cell_count reach.bands)) ≤ℤ (S.means store.old).room }
     ensures done { result ≡ Ok tt }
-    ensures stored { Stored reach.bands reach.size reach.level reach.index (minutes reach.level reach.index (unhaar reach.level numbers.now)) (means store.old) (means store.new) }
+    ensures stored { Stored reach.bands reach.size reach.level reach.index (minutes reach.level reach.index (unhaar reach.level numbers.now)) (S.means store.old) (S.means store.new) }
 {
     let mut from = 0;
     while let Some(touch) = next_touched(reach, from) {

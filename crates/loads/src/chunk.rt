@@ -18,9 +18,9 @@ pub(crate) fn add_chunk<S: Store>(
 ) -> Result<u32, Fault>
     requires many { length numbers.old ≡ 2 ^ reach.level }
     requires within { Within (2 ^ 31) numbers.old }
-    requires bands { (means store.old).bands ≡ reach.bands }
+    requires bands { (S.means store.old).bands ≡ reach.bands }
     ensures restored { numbers.new ≡ numbers.old }
-    ensures adds { Adds reach.bands reach.size reach.level reach.index (minutes reach.level reach.index numbers.old) (means store.old) result (means store.new) }
+    ensures adds { Adds reach.bands reach.size reach.level reach.index (minutes reach.level reach.index numbers.old) (S.means store.old) result (S.means store.new) }
 {
     transform(numbers, reach.level);
     let guard = Transformed {

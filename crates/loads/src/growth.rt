@@ -44,8 +44,8 @@ fn growth_cells(bands: u8, size: u8) -> GrowthCells
 
 // The number in a cell that the store has.
 fn number_in<S: Store>(store: &S, cell: u32) -> i64
-    requires { cell < cell_count (means store.now).bands }
-    ensures { result ≡ (means store.now).cells cell }
+    requires { cell < cell_count (S.means store.now).bands }
+    ensures { result ≡ (S.means store.now).cells cell }
 {
     match store.read(cell) {
         Ok(number) => number,
@@ -55,20 +55,20 @@ fn number_in<S: Store>(store: &S, cell: u32) -> i64
 
 // A number into a cell that the store has, where there is room for it.
 fn put<S: Store>(store: &mut S, cell: u32, number: i64)
-    requires inside { cell < cell_count (means store.old).bands }
-    requires free { Bars (means store.old) cell number → ⊥ }
-    ensures { Put (means store.old) cell number (means store.new) }
+    requires inside { cell < cell_count (S.means store.old).bands }
+    requires free { Bars (S.means store.old) cell number → ⊥ }
+    ensures { Put (S.means store.old) cell number (S.means store.new) }
 {
     let _ = store.write(cell, number);
 }
 
 // The total into its cells, the lower one first.
 fn write_total<S: Store>(store: &mut S, size: u8, cells: GrowthCells, total: i64)
-    requires lawful { (means store.old).bands ≤ 5 }
-    requires below { size < 4 * (means store.old).bands }
-    requires places { Places (means store.old).bands size cells.total cells.top cells.tile }
-    requires room { pos (newly (means store.old).bands size total (means store.old).cells) ≤ℤ (means store.old).room }
-    ensures { Topped size total (means store.old) (means store.new) }
+    requires lawful { (S.means store.old).bands ≤ 5 }
+    requires below { size < 4 * (S.means store.old).bands }
+    requires places { Places (S.means store.old).bands size cells.total cells.top cells.tile }
+    requires room { pos (newly (S.means store.old).bands size total (S.means store.old).cells) ≤ℤ (S.means store.old).room }
+    ensures { Topped size total (S.means store.old) (S.means store.new) }
 {
     match cells.tile {
         Some(tile) => {
@@ -81,9 +81,9 @@ fn write_total<S: Store>(store: &mut S, size: u8, cells: GrowthCells, total: i64
 
 // How many of the cells to write go from zero to nonzero.
 fn newly_filled<S: Store>(store: &S, size: u8, cells: GrowthCells, total: i64) -> u32
-    requires below { size < 4 * (means store.now).bands }
-    requires places { Places (means store.now).bands size cells.total cells.top cells.tile }
-    ensures { result ≡ newly (means store.now).bands size total (means store.now).cells }
+    requires below { size < 4 * (S.means store.now).bands }
+    requires places { Places (S.means store.now).bands size cells.total cells.top cells.tile }
+    ensures { result ≡ newly (S.means store.now).bands size total (S.means store.now).cells }
 {
     let top = starts(number_in(store, cells.top), total);
     match cells.tile {
@@ -102,7 +102,7 @@ fn is_small(number: i64) -> bool
 
 // The checks of a growth in their order, and its writing.
 fn raise<S: Store>(warehouse: &mut Warehouse<S>) -> Result<u8, Fault>
-    ensures { Grows (view (means warehouse.old.store) warehouse.old.asked) result (view (means warehouse.new.store) warehouse.new.asked) }
+    ensures { Grows (view (S.means warehouse.old.store) warehouse.old.asked) result (view (S.means warehouse.new.store) warehouse.new.asked) }
 {
     let size = warehouse.size();
     let bands = warehouse.store.bands();
@@ -127,7 +127,7 @@ fn raise<S: Store>(warehouse: &mut Warehouse<S>) -> Result<u8, Fault>
 
 // One level more: the size after it, or why the size is kept.
 pub fn grow<S: Store>(warehouse: &mut Warehouse<S>) -> Result<u8, Refusal>
-    ensures { Growth (view (means warehouse.old.store) warehouse.old.asked) result (view (means warehouse.new.store) warehouse.new.asked) }
+    ensures { Growth (view (S.means warehouse.old.store) warehouse.old.asked) result (view (S.means warehouse.new.store) warehouse.new.asked) }
 {
     let size = warehouse.size();
     let grown = asking(raise(warehouse), Asked::Size(size))?;

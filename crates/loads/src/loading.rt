@@ -28,7 +28,7 @@ fn finished<S: Store>(
 ) -> Result<u32, Fault>
     requires { level ≤ 12 }
     ensures restored { buffer.new ≡ buffer.old }
-    ensures finished { Finished (view (means warehouse.old.store) warehouse.old.asked) level index taken buffer.old result (view (means warehouse.new.store) warehouse.new.asked) }
+    ensures finished { Finished (view (S.means warehouse.old.store) warehouse.old.asked) level index taken buffer.old result (view (S.means warehouse.new.store) warehouse.new.asked) }
 {
     let many = chunk_len(level);
     if (taken as usize) < many {
@@ -42,7 +42,7 @@ fn finished<S: Store>(
 
 // A load of 2^level minutes, beside the warehouse.
 pub fn begin<S: Store>(warehouse: &Warehouse<S>, level: u8, index: u32) -> Result<OpenLoad, Refusal>
-    ensures { Begins (view (means warehouse.now.store) warehouse.now.asked).size level index result }
+    ensures { Begins (view (S.means warehouse.now.store) warehouse.now.asked).size level index result }
 {
     let asked = Asked::Interval(level, index);
     if level > 12 {
@@ -96,7 +96,7 @@ impl OpenLoad {
         buffer: &mut [i64],
     ) -> Result<u32, RefusedLoad>
         ensures restored { buffer.new ≡ buffer.old }
-        ensures finishes { Finishes self (view (means warehouse.old.store) warehouse.old.asked) buffer.old result (view (means warehouse.new.store) warehouse.new.asked) }
+        ensures finishes { Finishes self (view (S.means warehouse.old.store) warehouse.old.asked) buffer.old result (view (S.means warehouse.new.store) warehouse.new.asked) }
     {
         match finished(warehouse, self.level, self.index, self.taken, buffer) {
             Ok(written) => {

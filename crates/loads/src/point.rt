@@ -14,7 +14,7 @@ pub fn add_point<S: Store>(
     minute: u32,
     value: i64,
 ) -> Result<u32, Refusal>
-    ensures { AddsPoint (view (means warehouse.old.store) warehouse.old.asked) minute value result (view (means warehouse.new.store) warehouse.new.asked) }
+    ensures { AddsPoint (view (S.means warehouse.old.store) warehouse.old.asked) minute value result (view (S.means warehouse.new.store) warehouse.new.asked) }
 {
     let mut values = [value];
     let written = asking(

@@ -48,7 +48,7 @@ pub(crate) fn add_values<S: Store>(
     requires short { level ≤ 12 }
     requires many { length values.old ≡ 2 ^ level }
     ensures restored { values.new ≡ values.old }
-    ensures adds { Additions (view (means warehouse.old.store) warehouse.old.asked) level index values.old result (view (means warehouse.new.store) warehouse.new.asked) }
+    ensures adds { Additions (view (S.means warehouse.old.store) warehouse.old.asked) level index values.old result (view (S.means warehouse.new.store) warehouse.new.asked) }
 {
     let size = warehouse.size();
     if !lies(size, level, index) {

@@ -32,7 +32,7 @@ fn obey<S: Store>(
     command: Command,
     offset: u64,
 ) -> (Loading, Result<Option<Line>, FeedFault>)
-    ensures { Obeys (view (means warehouse.old.store) warehouse.old.asked) loading buffer.old command offset result.0 result.1 buffer.new (view (means warehouse.new.store) warehouse.new.asked) }
+    ensures { Obeys (view (S.means warehouse.old.store) warehouse.old.asked) loading buffer.old command offset result.0 result.1 buffer.new (view (S.means warehouse.new.store) warehouse.new.asked) }
 {
     match command {
         Command::Begin { level, index } => begin_load(warehouse, loading, level, index, offset),
@@ -69,7 +69,7 @@ pub fn step<S: Store>(
     bytes: &[u8],
     offset: u64,
 ) -> (Loading, Outcome)
-    ensures { Steps (view (means warehouse.old.store) warehouse.old.asked) loading buffer.old bytes.now offset result.0 result.1 buffer.new (view (means warehouse.new.store) warehouse.new.asked) }
+    ensures { Steps (view (S.means warehouse.old.store) warehouse.old.asked) loading buffer.old bytes.now offset result.0 result.1 buffer.new (view (S.means warehouse.new.store) warehouse.new.asked) }
 {
     let decoded = decode(bytes);
     let Ok((command, rest)) = decoded else {

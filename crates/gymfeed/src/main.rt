@@ -18,7 +18,7 @@ const VALUES: usize = 4096;
 fn fed(rt: &HostRuntime) -> anyhow::Result<()> {
     let mut buffer = vec![in rt.alloc(); 0i64; VALUES]?;
     let mut input = Input::new(rt.stdin());
-    let mut output = Output::new(rt.stdout());
+    let mut output = Output::new(rt.alloc(), rt.stdout())?;
     let store = HoldBack::new(Sparse::new(3, 1024));
     match run(store, SIZE, &mut buffer, &mut input, &mut output) {
         Ok(()) => Ok(()),

@@ -1,6 +1,8 @@
 // Standard input as a source, standard output as a sink. What they give and take is the operating system's word, so the
 // source may give any bytes, and the sink may have any.
+use anyhow::anyhow;
 use console::ends::{Broken, Sink, Source};
+use std::alloc::Global;
 use std::io::{BufWriter, Read, Stdin, Stdout, Write};
 
 #[derive(Drop)]
@@ -18,7 +20,7 @@ impl Input {
     pub(crate) fn error(self) -> anyhow::Error {
         match self.error {
             Some(error) => error,
-            None => "standard input cannot be read".into(),
+            None => anyhow!("standard input cannot be read"),
         }
     }
 }
@@ -46,17 +48,17 @@ pub struct Output {
 }
 
 impl Output {
-    pub(crate) fn new(stdout: Stdout) -> Output {
-        Output {
-            stdout: BufWriter::new(stdout),
+    pub(crate) fn new(alloc: Global, stdout: Stdout) -> anyhow::Result<Output> {
+        Ok(Output {
+            stdout: BufWriter::new(alloc, stdout)?,
             error: None,
-        }
+        })
     }
 
     pub(crate) fn error(self) -> anyhow::Error {
         match self.error {
             Some(error) => error,
-            None => "standard output cannot be written".into(),
+            None => anyhow!("standard output cannot be written"),
         }
     }
 }

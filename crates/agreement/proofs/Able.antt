@@ -1,12 +1,12 @@
 -- Every call can be made: there is always a step.
-use Rattle.std.proofs.Common.{◌≡◌, ℕ, suc, ◌-◌, ◌*◌, ◌/◌, ◌%◌, ◌<◌, ◌≤◌, Bool, true, false, cond, ◌&&◌, ◌||◌, eqb, ltb, List, [], ◌∷◌, ℤ, pos, ◌+ℤ◌, ◌-ℤ◌, Some, None, Option, refl, arith}
+use Rattle.std.proofs.Common.{◌≡◌, ℕ, suc, ◌/◌, ◌%◌, Bool, true, false, cond, ◌&&◌, ◌||◌, eqb, ltb, List, [], ◌∷◌, ℤ, pos, ◌+ℤ◌, ◌-ℤ◌, Some, None, Option, refl, arith}
 use Rattle.std.proofs.lemmas.Int.{ints}
 use Rattle.std.proofs.lemmas.Bool.{lt-ltb, eq-eqb, ne_eqb, eqb-true, ltb-true, and_from, and_parts, or_left, or_right, or_from, cond-true, cond-false}
 use Rattle.haar.specs.declared.coefficient.Coefficient.TheVariants.{TileSum, Difference}
 use Rattle.haar.specs.Tiles.{cell_number, cell_count}
 use Rattle.haar.specs.Growth.{Fills, Grown}
 use Rattle.haar.proofs.Load.{some_load}
-use Rattle.store.specs.Meaning.{Meaning, filled}
+use Rattle.store.specs.Meaning.{filled}
 use Rattle.warehouse.specs.declared.fault.Fault.{Fault}
 use Rattle.warehouse.specs.declared.fault.Fault.TheVariants.{Domain}
 use Rattle.warehouse.specs.Read.{look}
@@ -17,7 +17,7 @@ use Rattle.agreement.specs.Call.{Call, load, add, grow, settle, point, sum, mean
 use Rattle.agreement.specs.Share.{chunk_values}
 use Rattle.agreement.specs.Check.{fills, total_cell, chunk_checks, load_checks, refusal}
 use Rattle.agreement.specs.Reply.{reply}
-use Rattle.agreement.specs.Step.{Unchanged, Spent, Added, Changes, ChangesBy, Step}
+use Rattle.agreement.specs.Step.{Spent, Added, Changes, ChangesBy, Step}
 use Rattle.agreement.specs.History.{Tally}
 use Rattle.agreement.proofs.Checks.{Passed, passes, lies}
 use Rattle.agreement.proofs.Keeping.{Keeps}

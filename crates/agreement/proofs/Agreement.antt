@@ -1,5 +1,5 @@
 -- Every history leaves a warehouse sound, and any two agree.
-use Rattle.std.proofs.Common.{◌≡◌, ℕ, suc, ◌-◌, ◌*◌, ◌^◌, ◌<◌, ◌≤◌, cond, ◌||◌, eqb, ltb, leb, List, [], ◌∷◌, map, ℤ, pos, ◌+ℤ◌, ◌-ℤ◌, Some, None, Ok, Err, Option, Result, sym, refl, ap, ◌∙◌, subst, ⊎_elim, arith}
+use Rattle.std.proofs.Common.{◌≡◌, ℕ, suc, ◌-◌, ◌^◌, ◌<◌, ◌≤◌, cond, ◌||◌, eqb, ltb, leb, List, [], ◌∷◌, map, ℤ, Some, None, Err, Option, sym, refl, ap, ◌∙◌, subst, ⊎_elim, arith}
 use mathlib.Core.List.{Memᴰ}
 use Rattle.std.proofs.lemmas.Int.{ints}
 use Rattle.std.proofs.lemmas.Bool.{cases_lt}
@@ -8,11 +8,11 @@ use Rattle.haar.specs.Tree.{plain_sum}
 use Rattle.haar.specs.Tiles.{cell_number, cell_count}
 use Rattle.haar.specs.Haar.{HaarCells}
 use Rattle.haar.specs.Cells.{haar_cells}
-use Rattle.haar.specs.Count.{W, Touches, touched_coefficients}
+use Rattle.haar.specs.Count.{W, touched_coefficients}
 use Rattle.haar.proofs.Computing.{cells_are}
 use Rattle.haar.proofs.Haar.{one_haar}
 use Rattle.haar.proofs.Count.{touches}
-use Rattle.store.specs.Meaning.{Meaning, filled}
+use Rattle.store.specs.Meaning.{filled}
 use Rattle.store.proofs.Counting.{filled_same}
 use Rattle.warehouse.specs.declared.fault.Asked.TheVariants as asked
 use Rattle.warehouse.specs.declared.fault.Fault.{Fault}
@@ -29,7 +29,7 @@ use Rattle.agreement.specs.Share.{chunk_values}
 use Rattle.agreement.specs.Check.{first, chunk_checks, load_checks, growth_checks, fault_in, refusal}
 use Rattle.agreement.specs.Reply.{or_refused, reading_reply, trend_reply, reply}
 use Rattle.agreement.specs.Step.{Added, ChangesBy, Step}
-use Rattle.agreement.specs.History.{History, new, more, Leads, begun, went, Tally, tally, recount}
+use Rattle.agreement.specs.History.{History, Leads, begun, went, Tally, tally, recount}
 use Rattle.agreement.specs.Agreement.{Right, AllRight, Confined, Sound, Shared, AgreementHolds}
 use Rattle.agreement.proofs.Checks.{Passed, passes, lies}
 use Rattle.agreement.proofs.Cells.{same_look}

@@ -1,9 +1,8 @@
 -- Founding founds, and each call makes a step.
-use Rattle.std.proofs.Common.{◌≡◌, ℕ, Ok, Result, subst, arith}
+use Rattle.std.proofs.Common.{ℕ, subst, arith}
 use Rattle.store.specs.Meaning.{Meaning}
-use Rattle.warehouse.specs.declared.fault.Refusal.{Refusal}
 use Rattle.warehouse.specs.Faults.{fault_alone}
-use Rattle.warehouse.specs.Founding.{Founded, Surveyed, Surveys, cut}
+use Rattle.warehouse.specs.Founding.{Founded, Surveyed, cut}
 use Rattle.warehouse.specs.View.{view}
 use Rattle.agreement.specs.Steps.{StepsHold}
 use Rattle.agreement.proofs.Loading.{add_step, load_step}

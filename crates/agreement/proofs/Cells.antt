@@ -1,11 +1,10 @@
 -- Stores that agree below the count answer every reading alike.
-use Rattle.std.proofs.Common.{◌≡◌, ℕ, ◌<◌, ◌≤◌, cond, ltb, ℤ, Ok, Err, Result, sym, ap, ◌∙◌, subst, ⊎_elim}
+use Rattle.std.proofs.Common.{◌≡◌, ℕ, ◌<◌, ◌≤◌, cond, ltb, Ok, Err, sym, ap, ◌∙◌, subst, ⊎_elim}
 use mathlib.Core.Path.{fun_ext}
 use Rattle.std.proofs.lemmas.Bool.{cases_lt, lt-ltb, le-ltb, cond-true, cond-false}
 use Rattle.haar.specs.Tiles.{cell_count}
 use Rattle.store.specs.Meaning.{Meaning}
 use Rattle.store.specs.declared.fault.CellFault.TheVariants as cell
-use Rattle.warehouse.specs.declared.fault.Fault.{Fault}
 use Rattle.warehouse.specs.declared.fault.Fault.TheVariants.{Cell}
 use Rattle.warehouse.specs.Read.{look}
 

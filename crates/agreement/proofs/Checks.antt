@@ -1,5 +1,5 @@
 -- What passed checks tell.
-use Rattle.std.proofs.Common.{◌≡◌, ℕ, zero, suc, ◌-◌, ◌^◌, ◌<◌, ◌≤◌, min, Bool, true, false, cond, not, ◌&&◌, ltb, leb, List, [], ◌∷◌, ℤ, nat_abs, Some, None, Ok, Err, Option, Result, refl, ap, ◌∙◌, ⊎_elim, arith}
+use Rattle.std.proofs.Common.{◌≡◌, ℕ, zero, suc, ◌-◌, ◌^◌, ◌<◌, ◌≤◌, Bool, true, false, cond, not, ltb, leb, List, [], ◌∷◌, ℤ, nat_abs, Some, None, Ok, Option, Result, refl, ap, ◌∙◌, ⊎_elim, arith}
 use mathlib.Core.List.Memᴰ
 use mathlib.Core.List.{Memᴰ}
 use Rattle.std.proofs.lemmas.Bool.{cases_lt, ltb-false, ltb-true, leb-true, lt-ltb, le-leb, and_parts, and_from, not-false}
@@ -7,7 +7,7 @@ use Rattle.warehouse.specs.declared.fault.Fault.{Fault}
 use Rattle.warehouse.specs.Grading.{inside}
 use Rattle.warehouse.specs.Read.{limit}
 use Rattle.loads.specs.Addition.{Lies}
-use Rattle.agreement.specs.Check.{check, or, first, lowest, or_this, at, Write, put, barred, lesser, lowest_barred}
+use Rattle.agreement.specs.Check.{check, or, first, lowest, or_this, at, Write, put, barred, lowest_barred}
 
 pub some_none : {A : Type 0} {x : A} → Some x ≡ None → ⊥
 some_none e = let z : ◌≡◌ {A = ℕ} 0 1 = cc in omega arith

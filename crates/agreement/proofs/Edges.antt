@@ -1,5 +1,5 @@
 -- Each by computing.
-use Rattle.std.proofs.Common.{◌≡◌, ℕ, ◌<◌, ◌≤◌, eqb, ℤ, pos, negsuc, refl, ◌∙◌, inl, inr, arith}
+use Rattle.std.proofs.Common.{◌≡◌, ℕ, eqb, pos, refl, ◌∙◌, inl, inr, arith}
 use lib.Ieee.{round}
 use Rattle.std.proofs.lemmas.Int.{ints}
 use Rattle.std.proofs.lemmas.Bool.{ne_eqb, cond-false}

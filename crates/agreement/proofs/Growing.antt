@@ -1,15 +1,14 @@
 -- What the checks of growth find, and the step that growth makes.
-use Rattle.std.proofs.Common.{◌≡◌, ℕ, zero, suc, ◌+◌, ◌-◌, ◌*◌, ◌/◌, ◌%◌, ◌^◌, ◌<◌, ◌≤◌, min, Bool, true, false, cond, ltb, leb, List, [], ◌∷◌, ℤ, pos, ◌+ℤ◌, nat_abs, ◌≤ℤ◌, ◌<ℤ◌, Some, None, Ok, Err, Option, Result, sym, refl, ap, ◌∙◌, ap₂, inl, inr, ⊎_elim, arith, pow_pos}
+use Rattle.std.proofs.Common.{◌≡◌, ℕ, zero, suc, ◌+◌, ◌-◌, ◌*◌, ◌/◌, ◌^◌, ◌<◌, ◌≤◌, min, Bool, true, false, cond, [], ◌∷◌, ℤ, pos, nat_abs, ◌≤ℤ◌, ◌<ℤ◌, Some, None, Ok, Option, Result, sym, refl, ap, ◌∙◌, ap₂, inl, inr, ⊎_elim, arith, pow_pos}
 use native.Mathlib.Nat.{zero-div}
 use lib.Signed.{lt_z}
 use Rattle.std.proofs.lemmas.Int.{ints}
 use Rattle.std.proofs.lemmas.Bool.{cases_lt, cases_eq, lt-ltb, le-ltb, le-leb, lt-leb}
 use Rattle.haar.specs.declared.coefficient.Coefficient.TheVariants.{TileSum, Difference}
-use Rattle.haar.specs.Tiles.{depth, tiles_before, cell_number, cell_count, Inside}
+use Rattle.haar.specs.Tiles.{depth, tiles_before, cell_number, Inside}
 use Rattle.haar.specs.Count.{bands_in_use}
-use Rattle.haar.specs.Growth.{Grown}
 use Rattle.haar.proofs.Numbers.{inside_below}
-use Rattle.store.specs.Meaning.{Meaning, weight}
+use Rattle.store.specs.Meaning.{weight}
 use Rattle.warehouse.specs.declared.fault.Asked.TheVariants.{Size}
 use Rattle.warehouse.specs.declared.fault.Fault.{Fault}
 use Rattle.warehouse.specs.declared.fault.Fault.TheVariants.{Large, Full, Top}
@@ -17,9 +16,9 @@ use Rattle.warehouse.specs.Read.{look, limit}
 use Rattle.warehouse.specs.View.{View}
 use Rattle.loads.specs.Loads.{Small}
 use Rattle.agreement.specs.Call.{grow, grown, refused}
-use Rattle.agreement.specs.Check.{check, or, lesser, put, held, total_cell, total, fills, growth_writes, barred, bar, lowest_barred, newly, at, refusal}
+use Rattle.agreement.specs.Check.{check, or, lesser, put, held, total_cell, total, fills, barred, bar, lowest_barred, newly, at, refusal}
 use Rattle.agreement.specs.Reply.{or_refused}
-use Rattle.agreement.specs.Step.{Unchanged, Spent, Raised, Step}
+use Rattle.agreement.specs.Step.{Unchanged, Raised, Step}
 use Rattle.agreement.proofs.Additions.{next, hit, small_abs, abs_small}
 use Rattle.agreement.proofs.Cells.{look_below}
 use Rattle.agreement.proofs.Steps.{accepted, turned_down}

@@ -1,5 +1,5 @@
 -- What every history keeps true of a warehouse.
-use Rattle.std.proofs.Common.{◌≡◌, ℕ, zero, suc, ◌+◌, ◌-◌, ◌*◌, ◌/◌, ◌%◌, ◌^◌, ◌<◌, ◌≤◌, false, not, leb, ◌⊎◌, List, [], ◌∷◌, ℤ, pos, ◌+ℤ◌, nat_abs, Some, None, Ok, Option, sym, refl, ap, ◌∙◌, subst, ap₂, inl, inr, ⊎_elim, arith, pow_pos}
+use Rattle.std.proofs.Common.{◌≡◌, ℕ, zero, suc, ◌-◌, ◌*◌, ◌/◌, ◌%◌, ◌^◌, ◌<◌, ◌≤◌, false, ◌⊎◌, List, [], ◌∷◌, ℤ, pos, ◌+ℤ◌, nat_abs, Some, None, Option, sym, refl, ap, ◌∙◌, subst, ap₂, ⊎_elim, arith}
 use mathlib.Core.List.Memᴰ
 use Rattle.std.proofs.lemmas.Int.{ints}
 use Rattle.std.proofs.lemmas.Bool.{cases_lt, cases_eq, leb-false}
@@ -9,7 +9,6 @@ use Rattle.haar.specs.Tiles.{cell_number, cell_count, Inside}
 use Rattle.haar.specs.Haar.{HaarCells}
 use Rattle.haar.specs.Load.{Touched, level, index}
 use Rattle.haar.specs.Growth.{Blank, Fills, Grown}
-use Rattle.haar.specs.Count.{bands_in_use}
 use Rattle.haar.proofs.Numbers.{one_coefficient, inside_below}
 use Rattle.haar.proofs.Haar.{coefficient_of}
 use Rattle.haar.proofs.Load.{founded, loaded}
@@ -17,7 +16,7 @@ use Rattle.haar.proofs.Load as haar-load
 use Rattle.haar.proofs.Growth.{growth}
 use Rattle.haar.proofs.Read.{chunk_blank, plus_blank, grow_blank}
 use Rattle.haar.proofs.Count.{coefficients_has}
-use Rattle.store.specs.Meaning.{Meaning, filled}
+use Rattle.store.specs.Meaning.{filled}
 use Rattle.store.proofs.Counting.{filled_same}
 use Rattle.warehouse.specs.declared.fault.Fault.{Fault}
 use Rattle.warehouse.specs.declared.fault.Fault.TheVariants.{Domain, Top}

@@ -1,23 +1,20 @@
 -- A finished load and a point addition, as their contracts tell them, make a step.
-use Rattle.std.proofs.Common.{◌≡◌, ℕ, ◌*◌, ◌^◌, ◌<◌, ◌≤◌, true, false, ltb, List, [], ◌∷◌, length, ℤ, Some, None, Ok, Err, Option, Result, sym, refl, ap, ◌∙◌, subst, ap₂, ⊎_elim, arith}
+use Rattle.std.proofs.Common.{◌≡◌, ℕ, ◌^◌, ◌<◌, ◌≤◌, List, [], ◌∷◌, length, ℤ, Some, None, Ok, Err, Option, Result, sym, ap, ◌∙◌, subst, ⊎_elim, arith}
 use Rattle.std.proofs.lemmas.Bool.{cases_lt, lt-ltb, le-ltb}
 use Rattle.haar.specs.Count.{W}
-use Rattle.store.specs.Meaning.{Meaning}
-use Rattle.warehouse.specs.declared.fault.Asked.{Asked}
 use Rattle.warehouse.specs.declared.fault.Asked.TheVariants.{Interval, Minute}
 use Rattle.warehouse.specs.declared.fault.Fault.{Fault}
 use Rattle.warehouse.specs.declared.fault.Fault.TheVariants.{Buffer, Short}
 use Rattle.warehouse.specs.declared.fault.Refusal.{Refusal}
-use Rattle.warehouse.specs.Faults.{fault_alone}
 use Rattle.warehouse.specs.Read.{look}
 use Rattle.warehouse.specs.View.{View}
 use Rattle.loads.specs.declared.open.OpenLoad.{OpenLoad}
 use Rattle.loads.specs.declared.open.RefusedLoad.{RefusedLoad}
-use Rattle.loads.specs.Addition.{Refuses, Accepts, Additions, AddsPoint}
+use Rattle.loads.specs.Addition.{Refuses, Accepts, AddsPoint}
 use Rattle.loads.specs.Opening.{Finished, Finishes}
-use Rattle.agreement.specs.Call.{Call, load, add, Answer, wrote, refused, repeats}
+use Rattle.agreement.specs.Call.{Call, load, add, wrote, refused}
 use Rattle.agreement.specs.Check.{check, first, chunk_checks, refusal}
-use Rattle.agreement.specs.Reply.{or_refused, written_reply, finish_reply, reply}
+use Rattle.agreement.specs.Reply.{or_refused, written_reply, finish_reply}
 use Rattle.agreement.specs.Share.{chunk_values}
 use Rattle.agreement.specs.Step.{Unchanged, Added, Step}
 use Rattle.agreement.specs.Steps.{Fits}

@@ -1,5 +1,5 @@
 -- An answer is a refusal exactly as the checks say.
-use Rattle.std.proofs.Common.{◌≡◌, ℕ, suc, Some, None, Ok, Err, Option, Result, refl, ap, ◌∙◌}
+use Rattle.std.proofs.Common.{◌≡◌, suc, Some, None, Ok, Err, Option, Result, refl, ap, ◌∙◌}
 use Rattle.haar.specs.declared.trend.Trend.{Trend}
 use Rattle.haar.specs.Count.{W}
 use Rattle.warehouse.specs.declared.fault.Asked.{Asked}

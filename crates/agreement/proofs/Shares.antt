@@ -1,7 +1,7 @@
 -- SHIFT and SPLIT give each touched coefficient the Haar value of the chunk alone.
 use Rattle.std.proofs.Common.{◌≡◌, ℕ, ◌+◌, ◌-◌, ◌*◌, ◌/◌, ◌%◌, ◌^◌, ◌<◌, ◌≤◌, eqb, leb, List, ℤ, ◌+ℤ◌, neg_ℤ, sym, ap, ◌∙◌, ⊎_elim, arith}
 use Rattle.std.proofs.lemmas.Bool.{cases_lt, cases_eq, le-leb, lt-leb, eq-eqb, ne_eqb, cond-true, cond-false}
-use Rattle.haar.specs.Tree.{S, D}
+use Rattle.haar.specs.Tree.{S}
 use Rattle.haar.specs.declared.coefficient.Coefficient.{Coefficient}
 use Rattle.haar.specs.declared.coefficient.Coefficient.TheVariants.{TileSum, Difference}
 use Rattle.haar.specs.Tiles.{cell_number, Inside}

@@ -1,17 +1,16 @@
 -- How a call shows that it made a step.
-use Rattle.std.proofs.Common.{◌≡◌, ℕ, suc, List, ℤ, Some, None, Option, Result, sym, refl, ap, ◌∙◌, subst}
+use Rattle.std.proofs.Common.{◌≡◌, ℕ, Some, None, Option, Result, sym, refl, ap, subst}
 use Rattle.haar.specs.declared.trend.Trend.{Trend}
-use Rattle.haar.specs.Count.{W}
-use Rattle.store.specs.Meaning.{Meaning, Settles}
+use Rattle.store.specs.Meaning.{Settles}
 use Rattle.warehouse.specs.declared.fault.Fault.{Fault}
 use Rattle.warehouse.specs.declared.fault.Refusal.{Refusal}
 use Rattle.warehouse.specs.declared.reading.Reading.{Reading}
 use Rattle.warehouse.specs.Ask.{point_answer, sum_answer, mean_answer}
 use Rattle.warehouse.specs.Grading.{trend_answer}
 use Rattle.warehouse.specs.View.{View}
-use Rattle.agreement.specs.Call.{Call, load, add, grow, settle, point, sum, mean, trend, Answer, wrote, grown, settled, refused, repeats}
+use Rattle.agreement.specs.Call.{Call, settle, point, sum, mean, trend, Answer, settled}
 use Rattle.agreement.specs.Check.{refusal}
-use Rattle.agreement.specs.Reply.{or_refused, reading_reply, trend_reply, reply}
+use Rattle.agreement.specs.Reply.{reading_reply, trend_reply, reply}
 use Rattle.agreement.specs.Step.{Unchanged, Changes, ChangesBy, Step}
 
 pub unchanged : (v : View) → Unchanged v v

@@ -1,5 +1,5 @@
 -- The worked example, as a history that leads on from a founding.
-use Rattle.std.proofs.Common.{◌≡◌, ℕ, ◌-◌, ◌*◌, ◌/◌, ◌^◌, ◌<◌, ◌≤◌, cond, eqb, List, [], ◌∷◌, ℤ, pos, negsuc, ◌+ℤ◌, sym, refl, ap, ◌∙◌, subst, ap₂, ⊎_elim, arith}
+use Rattle.std.proofs.Common.{◌≡◌, ℕ, ◌<◌, eqb, [], ◌∷◌, ℤ, pos, negsuc, ◌+ℤ◌, sym, refl, ap, ◌∙◌, subst, ap₂, ⊎_elim, arith}
 use Rattle.std.proofs.lemmas.Int.{ints}
 use Rattle.std.proofs.lemmas.Bool.{cases_eq, ne_eqb, cond-false}
 use Rattle.haar.specs.Tree.{plain_sum}
@@ -11,7 +11,7 @@ use Rattle.haar.specs.Figures.{worked_minutes, worked_cells, lookup}
 use Rattle.haar.proofs.Computing.{cells_are}
 use Rattle.haar.proofs.Figures.{figures}
 use Rattle.haar.proofs.Haar.{one_haar}
-use Rattle.store.specs.Meaning.{Meaning, filled}
+use Rattle.store.specs.Meaning.{filled}
 use Rattle.store.proofs.Counting.{filled_same}
 use Rattle.warehouse.specs.declared.fault.Asked.TheVariants.{Minute}
 use Rattle.warehouse.specs.declared.fault.Fault.TheVariants.{Domain}

@@ -11,7 +11,7 @@ use Rattle.haar.specs.Tree.{plain_sum}
 use Rattle.haar.specs.Tiles.{cell_count}
 use Rattle.haar.specs.Haar.{HaarCells}
 use Rattle.haar.specs.Count.{W, Touches}
-use Rattle.store.specs.Meaning.{Meaning, filled}
+use Rattle.store.specs.Meaning.{filled}
 use Rattle.warehouse.specs.Read.{cells_read, range_cells, floor}
 use Rattle.warehouse.specs.View.{View}
 use Rattle.agreement.specs.Call.{Call, load, add, point, sum, mean, Answer, wrote, gave, fault_of}

@@ -2,10 +2,9 @@
 --   made            a store that holds two numbers, and is else empty
 --   vacant          a store that is empty
 --   LargeEdges, FullEdges, TornEdges, WriteEdges, QuestionEdges, TrendEdges, FoundingEdges   the table
-use Rattle.std.specs.Prelude.{◌≡◌, ℕ, ◌+◌, ◌^◌, true, false, cond, List, [], ◌∷◌, ℤ, pos, negsuc, Some, None, Ok, Err, ◌==◌}
+use Rattle.std.specs.Prelude.{◌≡◌, ℕ, ◌+◌, ◌^◌, true, false, cond, [], ◌∷◌, ℤ, pos, negsuc, Some, None, Ok, Err, ◌==◌}
 use Rattle.std.specs.Float.{fin}
-use Rattle.haar.specs.declared.trend.Trend.TheVariants.{Falling, Rising, Level}
-use Rattle.store.specs.Meaning.{Meaning}
+use Rattle.haar.specs.declared.trend.Trend.TheVariants.{Falling, Level}
 use Rattle.store.specs.declared.fault.CellFault.TheVariants as cell
 use Rattle.warehouse.specs.declared.fault.Asked.TheVariants as asked
 use Rattle.warehouse.specs.declared.fault.Fault.TheVariants.{Cell, Value, Buffer, Range, Interval, Size, Domain, Large, Full, Top, Short, Torn, Dirty, Fine}

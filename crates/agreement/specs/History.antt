@@ -7,7 +7,7 @@
 use Rattle.std.specs.Prelude.{ℕ, suc, true, List, [], ◌∷◌, ℤ, pos, ◌+ℤ◌, ◌-ℤ◌, Some, None, Option}
 use Rattle.haar.specs.Tiles.{cell_count}
 use Rattle.haar.specs.Cells.{haar_cells}
-use Rattle.store.specs.Meaning.{Meaning, filled}
+use Rattle.store.specs.Meaning.{filled}
 use Rattle.warehouse.specs.declared.fault.Fault.{Fault}
 use Rattle.warehouse.specs.Founding.{Founded}
 use Rattle.warehouse.specs.View.{View}

@@ -2,7 +2,7 @@
 --   gym            the founding, at size 4
 --   worked         the history; worked_1 to worked_7 are its beginnings
 --   WorkedHolds   it can happen just so, and whatever view it leads to has the worked cells and no other nonzero cell
-use Rattle.std.specs.Prelude.{◌≡◌, ℕ, ◌<◌, true, List, [], ◌∷◌, ℤ, pos, negsuc}
+use Rattle.std.specs.Prelude.{◌≡◌, ℕ, ◌<◌, true, [], ◌∷◌, pos, negsuc}
 use Rattle.haar.specs.Figures.{worked_cells, lookup}
 use Rattle.haar.specs.Tiles.{cell_count}
 use Rattle.store.specs.Meaning.{filled}

@@ -1,5 +1,5 @@
 -- One command: what a step of the feed is by the recount.
-use Rattle.std.proofs.Common.{◌≡◌, ℕ, ◌+◌, ◌-◌, ◌<◌, ◌≤◌, List, [], ◌∷◌, ◌++◌, length, drop, ℤ, Some, None, Ok, Err, Option, Result, sym, refl, ap, ◌∙◌, subst, ap₂, ⊎_elim, append_assoc, append-nil, arith, length-append}
+use Rattle.std.proofs.Common.{◌≡◌, ℕ, ◌+◌, ◌-◌, ◌<◌, List, [], ◌∷◌, ◌++◌, length, drop, ℤ, Some, None, Ok, Err, Option, Result, sym, refl, ap, ◌∙◌, subst, ap₂, ⊎_elim, append-nil, arith, length-append}
 use Rattle.warehouse.specs.View.{View}
 use Rattle.wire.specs.declared.command.Command.{Command}
 use Rattle.wire.specs.declared.command.DecodeFault.{DecodeFault}
@@ -16,9 +16,9 @@ use Rattle.feed.specs.declared.state.Loading.{Loading}
 use Rattle.feed.specs.Step.{Reply, Steps, StepsBy, after, after_fault}
 use Rattle.feed.proofs.Advancing.{shorter, after_command}
 use Rattle.agreement.specs.History.{History, Leads}
-use Rattle.feedlaw.specs.Turns.{Desk, turn}
+use Rattle.feedlaw.specs.Turns.{turn}
 use Rattle.feedlaw.specs.Lines.{ending, shown, told, text}
-use Rattle.feedlaw.specs.Law.{load_of, desk_of, Turns}
+use Rattle.feedlaw.specs.Law.{load_of, desk_of}
 use Rattle.feedlaw.proofs.Obeying.{obeyed_right}
 use Rattle.feedlaw.proofs.Prefixes.{with_more, decoded_more}
 use Rattle.feedlaw.proofs.Telling.{told_turn, told_stop}

@@ -1,12 +1,10 @@
 -- The pieces of a feed, one after another.
-use Rattle.std.proofs.Common.{◌≡◌, ℕ, ◌+◌, ◌-◌, ◌^◌, ◌<◌, ◌≤◌, Bool, true, false, eqb, List, [], ◌∷◌, ◌++◌, length, drop, Ok, Result, sym, refl, ap, ◌∙◌, subst, ⊎_elim, append_assoc, append-nil, arith, length-append, length-drop}
+use Rattle.std.proofs.Common.{◌≡◌, ℕ, ◌+◌, Bool, true, false, eqb, List, [], ◌++◌, length, drop, Ok, Result, sym, refl, ap, ◌∙◌, subst, ⊎_elim, append_assoc, append-nil, arith, length-append, length-drop}
 use Rattle.std.proofs.lemmas.List.{drop_all}
 use Rattle.std.proofs.lemmas.Bool.{cases_eq, eq-eqb, ne_eqb}
 use Rattle.warehouse.specs.View.{View}
-use Rattle.wire.specs.declared.line.Line.{Line}
 use Rattle.agreement.specs.History.{History, Leads}
-use Rattle.feedlaw.specs.Lines.{ending, text}
-use Rattle.feedlaw.specs.Law.{load_of, desk_of}
+use Rattle.feedlaw.specs.Law.{desk_of}
 use Rattle.feedlaw.proofs.Telling.{told_none}
 use Rattle.console.specs.declared.ends.Broken.{Broken}
 use Rattle.console.specs.declared.played.Played.{Played}

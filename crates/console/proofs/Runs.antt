@@ -1,14 +1,12 @@
 -- A feed to its end, on a warehouse with any history and on one that is new.
-use Rattle.std.proofs.Common.{◌≡◌, ℕ, ◌*◌, ◌≤◌, min, List, [], ◌∷◌, ◌++◌, ℤ, Ok, Err, Result, sym, refl, ap, ◌∙◌, subst, append-nil, arith}
+use Rattle.std.proofs.Common.{◌≡◌, ℕ, List, [], ◌++◌, ℤ, Ok, Err, Result, sym, refl, ap, ◌∙◌, subst, append-nil, arith}
 use Rattle.store.specs.Meaning.{Meaning}
-use Rattle.warehouse.specs.declared.fault.Refusal.{Refusal}
 use Rattle.warehouse.specs.Founding.{Founded, cut}
 use Rattle.warehouse.specs.View.{View, view}
-use Rattle.wire.specs.declared.line.Line.{Line}
 use Rattle.feed.specs.declared.state.Loading.{Loading}
 use Rattle.feed.specs.declared.state.Loading.TheVariants.{Idle, Open}
 use Rattle.feed.specs.Step as step
-use Rattle.agreement.specs.History.{History, new, Leads, begun, tally}
+use Rattle.agreement.specs.History.{new, begun, tally}
 use Rattle.feedlaw.specs.Turns.{closed, desk}
 use Rattle.feedlaw.specs.Lines.{ending, shown, told, text}
 use Rattle.feedlaw.specs.Law.{load_of}
@@ -16,7 +14,7 @@ use Rattle.console.specs.declared.fault.RunFault.{RunFault}
 use Rattle.console.specs.declared.fault.RunFault.TheVariants.{Founding, Input, Output, Long}
 use Rattle.console.specs.Playing.{State, state, to_come}
 use Rattle.console.specs.Pumping.{Drained, Pumps}
-use Rattle.console.specs.Running.{lines_after, Whole, Resumed, Ran}
+use Rattle.console.specs.Running.{Whole, Resumed, Ran}
 use Rattle.console.proofs.Onward.{took_both}
 
 ending_line : (l : Loading) → shown (step.ending l) ≡ ending (load_of l)

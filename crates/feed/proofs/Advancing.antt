@@ -1,9 +1,9 @@
 -- A decoded command leaves fewer bytes.
-use Rattle.std.proofs.Common.{◌≡◌, ℕ, ◌+◌, ◌-◌, ◌<◌, ◌≤◌, true, false, cond, eqb, ltb, List, [], ◌∷◌, length, get_or, drop, Ok, Err, Result, sym, refl, ap, ◌∙◌, inl, inr, arith, length-drop}
+use Rattle.std.proofs.Common.{◌≡◌, ℕ, ◌+◌, ◌-◌, ◌<◌, ◌≤◌, eqb, ltb, List, [], ◌∷◌, length, get_or, drop, Ok, Err, Result, sym, ap, ◌∙◌, inl, inr, arith, length-drop}
 use Rattle.std.proofs.lemmas.Bool.{cases_lt, cases_eq, cond-true, cond-false, eq-eqb, ne_eqb, lt-ltb, le-ltb}
 use Rattle.wire.specs.declared.command.Command.{Command}
 use Rattle.wire.specs.declared.command.DecodeFault.{DecodeFault}
-use Rattle.wire.specs.declared.command.DecodeFault.TheVariants.{Command as Unknown, Cut}
+use Rattle.wire.specs.declared.command.DecodeFault.TheVariants.{Cut}
 use Rattle.wire.specs.Decode.{Row, decoded_as, decoded_by, decoded, commands}
 
 abbrev Answer : Type 0

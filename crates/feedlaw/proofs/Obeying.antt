@@ -1,6 +1,6 @@
 -- A command on a warehouse with a history does and prints what the recount of that history says.
-use Rattle.std.proofs.Common.{◌≡◌, ℕ, suc, ◌-◌, ◌*◌, ◌^◌, ◌<◌, ◌≤◌, Bool, true, false, cond, ltb, leb, List, [], ◌∷◌, ℤ, Some, None, Ok, Err, Option, Result, sym, refl, ap, ◌∙◌, subst, ap₂, arith}
-use Rattle.std.proofs.lemmas.Bool.{leb-true, leb-false, ltb-true, ltb-false, lt-ltb, le-ltb, lt-leb, le-leb, cond-true, cond-false}
+use Rattle.std.proofs.Common.{◌≡◌, ℕ, suc, ◌-◌, ◌^◌, ◌<◌, true, false, ltb, leb, List, [], ◌∷◌, ℤ, Some, Ok, Err, Option, Result, sym, ap, ◌∙◌, subst, ap₂, arith}
+use Rattle.std.proofs.lemmas.Bool.{leb-true, leb-false, ltb-false, le-ltb, cond-true, cond-false}
 use Rattle.haar.specs.Count.{W}
 use Rattle.haar.specs.Tree.{plain_sum}
 use Rattle.warehouse.specs.declared.fault.Fault.{Fault}
@@ -15,25 +15,22 @@ use Rattle.warehouse.specs.Faithful.{Holds}
 use Rattle.warehouse.specs.Read.{◌then◌, cells_read, range_cells, floor}
 use Rattle.warehouse.specs.View.{View}
 use Rattle.warehouse.proofs.Faithful.{reads_back}
-use Rattle.loads.specs.declared.open.OpenLoad.{OpenLoad}
-use Rattle.wire.specs.declared.command.Command.{Command}
 use Rattle.wire.specs.declared.command.Command.TheVariants.{Grow, Begin, Value, Finish, GiveUp, Add, Point, Sum, Mean}
 use Rattle.wire.specs.declared.line.Line.{Line}
 use Rattle.wire.specs.declared.line.Line.TheVariants as line
 use Rattle.feed.specs.declared.outcome.Outcome.TheVariants.{On}
 use Rattle.feed.specs.declared.state.Loading.{Loading}
 use Rattle.feed.specs.declared.state.Loading.TheVariants.{Idle, Open}
-use Rattle.feed.specs.Step.{Reply, printed, told, point_line, sum_line, mean_line, out_of_sequence, begun, filled, finished, Begun, Filled, Finished, GivenUp, Obeys, after}
-use Rattle.agreement.specs.Call.{Call, load, add, grow, Answer, fault_of, repeats, wrote, grown}
+use Rattle.feed.specs.Step.{Reply, printed, told, point_line, sum_line, mean_line, out_of_sequence, Obeys, after}
+use Rattle.agreement.specs.Call.{Call, load, add, grow, Answer, repeats}
 use Rattle.agreement.specs.Check.{check, first, refusal}
-use Rattle.agreement.specs.History.{History, more, Leads, went, Tally, tally, enter_if, recount}
-use Rattle.agreement.specs.Reply.{reply, written_reply, growth_reply, finish_reply}
+use Rattle.agreement.specs.History.{History, more, Leads, went, tally, enter_if, recount}
+use Rattle.agreement.specs.Reply.{written_reply, growth_reply, finish_reply}
 use Rattle.agreement.specs.Step.{Step}
 use Rattle.agreement.specs.Agreement.{Right}
-use Rattle.agreement.proofs.Keeping.{Keeps}
 use Rattle.agreement.proofs.Agreement.{leads_keeps, sound}
 use Rattle.agreement.proofs.Calls.{steps}
-use Rattle.feedlaw.specs.Turns.{Load, closed, desk, Turn, turned, turn, unless, checked, out_of_turn, verdict, call_turn, begin_turn, value_turn, finish_turn, give_up_turn, begin_checks, value_checks}
+use Rattle.feedlaw.specs.Turns.{Load, closed, desk, Turn, turned, turn, unless, checked, out_of_turn, call_turn, begin_turn, value_turn, finish_turn, give_up_turn, begin_checks, value_checks}
 use Rattle.feedlaw.specs.Law.{load_of, desk_of, Turns, ObeyedRight}
 use Rattle.feedlaw.proofs.Saying.{written_line, grown_line, finished_line}
 use Rattle.feedlaw.proofs.Loading.{Opens, Fills, begins, fills, finishes_load, one_check, two_checks}

@@ -1,12 +1,12 @@
 -- A command at the front of some bytes is decoded alike with more bytes after them, but where it is cut short.
-use Rattle.std.proofs.Common.{◌≡◌, ℕ, ◌+◌, ◌*◌, ◌^◌, ◌<◌, ◌≤◌, true, false, cond, eqb, ltb, ◌⊎◌, List, [], ◌∷◌, ◌++◌, length, get_or, drop, Ok, Err, Result, sym, refl, ap, ◌∙◌, ap₂, inl, inr, ⊎_elim, arith, length-append}
+use Rattle.std.proofs.Common.{◌≡◌, ℕ, ◌+◌, ◌*◌, ◌^◌, ◌<◌, ◌≤◌, eqb, ltb, ◌⊎◌, List, [], ◌∷◌, ◌++◌, length, get_or, drop, Ok, Err, Result, sym, refl, ap, ◌∙◌, ap₂, inl, inr, ⊎_elim, arith, length-append}
 use lib.Seq.{drop-append-le}
 use Rattle.std.proofs.lemmas.List.{get_or_append_left}
 use Rattle.std.proofs.lemmas.Bool.{cases_lt, cases_eq, cond-true, cond-false, eq-eqb, ne_eqb, lt-ltb, le-ltb}
 use Rattle.wire.specs.declared.command.Command.{Command}
 use Rattle.wire.specs.declared.command.Command.TheVariants.{Begin, Value, Add, Point, Sum, Mean}
 use Rattle.wire.specs.declared.command.DecodeFault.{DecodeFault}
-use Rattle.wire.specs.declared.command.DecodeFault.TheVariants.{Command as Unknown, Cut}
+use Rattle.wire.specs.declared.command.DecodeFault.TheVariants.{Cut}
 use Rattle.wire.specs.Decode.{big_endian, twos_complement, Row, commands, decoded_as, decoded_by, decoded}
 
 abbrev Answer : Type 0

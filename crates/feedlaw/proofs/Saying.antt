@@ -1,6 +1,5 @@
 -- An answer of the warehouse, by the checks, and the line that is printed of it.
-use Rattle.std.proofs.Common.{◌≡◌, ℕ, ◌-◌, ◌^◌, ◌<◌, ◌≤◌, Bool, true, false, cond, ltb, leb, List, [], ◌∷◌, ℤ, Some, None, Ok, Err, Option, Result, sym, refl, ap, ◌∙◌, subst, inl, inr, arith}
-use Rattle.std.proofs.lemmas.Bool.{cases_lt, lt-ltb, le-ltb, lt-leb, le-leb, cond-true, cond-false}
+use Rattle.std.proofs.Common.{◌≡◌, ℕ, Some, None, Ok, Err, Option, Result, ap, ◌∙◌, arith}
 use Rattle.warehouse.specs.declared.fault.Asked.{Asked}
 use Rattle.warehouse.specs.declared.fault.Fault.{Fault}
 use Rattle.warehouse.specs.declared.fault.Refusal.{Refusal}
@@ -10,8 +9,7 @@ use Rattle.loads.specs.declared.open.RefusedLoad.{RefusedLoad}
 use Rattle.wire.specs.declared.line.Line.{Line}
 use Rattle.wire.specs.declared.line.Line.TheVariants as line
 use Rattle.feed.specs.declared.outcome.Outcome.TheVariants.{On}
-use Rattle.feed.specs.declared.fault.FeedFault.{FeedFault}
-use Rattle.feed.specs.Step.{Reply, refused, told, printed, counted, after}
+use Rattle.feed.specs.Step.{Reply, told, printed, counted, after}
 use Rattle.agreement.specs.Call.{Answer, wrote, grown}
 use Rattle.agreement.specs.Call as call
 use Rattle.agreement.specs.Reply.{or_refused, written_reply, growth_reply, finish_reply}

@@ -4,7 +4,7 @@
 --   told          the same, for as many as the bytes can hold
 --   feed_lines    the lines of a whole feed, from founding at size n with the values zs in the buffer
 --   text          the bytes of some lines
-use Rattle.std.specs.Prelude.{ℕ, zero, suc, ◌+◌, ◌-◌, List, [], ◌∷◌, ◌++◌, length, ℤ, pos, Some, None, Ok, Err, Option, Result}
+use Rattle.std.specs.Prelude.{ℕ, zero, suc, ◌+◌, ◌-◌, List, [], ◌∷◌, ◌++◌, length, ℤ, Some, None, Ok, Err, Option, Result}
 use Rattle.wire.specs.declared.command.Command.{Command}
 use Rattle.wire.specs.declared.command.DecodeFault.{DecodeFault}
 use Rattle.wire.specs.declared.line.Line.{Line}

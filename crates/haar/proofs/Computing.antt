@@ -1,5 +1,5 @@
 -- The Haar cells as a function are the Haar cells.
-use Rattle.std.proofs.Common.{◌≡◌, ℕ, zero, suc, ◌+◌, ◌-◌, ◌*◌, ◌/◌, ◌^◌, ◌<◌, ◌≤◌, min, cond, eqb, List, [], ◌∷◌, ℤ, pos, sym, refl, ap, ◌∙◌, ⊎_elim, lt_of_mul-lt-mul_right, arith, pow_pos, pow_mono, pow-add}
+use Rattle.std.proofs.Common.{◌≡◌, ℕ, ◌+◌, ◌-◌, ◌*◌, ◌^◌, ◌<◌, ◌≤◌, min, eqb, List, [], ◌∷◌, ℤ, pos, sym, refl, ap, ◌∙◌, ⊎_elim, lt_of_mul-lt-mul_right, arith, pow_pos, pow_mono, pow-add}
 use native.Mathlib.Nat.{div-eq_of_lt, zero-div}
 use mathlib.Core.List.Memᴰ
 use mathlib.Core.List.{Memᴰ}

@@ -1,5 +1,5 @@
 -- The touched cells, listed and counted.
-use Rattle.std.proofs.Common.{◌≡◌, ℕ, zero, suc, ◌+◌, ◌-◌, ◌*◌, ◌/◌, ◌%◌, ◌^◌, ◌<◌, ◌≤◌, min, max, List, [], ◌++◌, map, length, sym, refl, ap, ◌∙◌, subst, ap₂, inl, inr, ⊎_elim, mod-lt, div-lt_iff_lt-mul, mul-lt-mul_of_pos_right, div-add-mod', arith, length-append, pow_pos, pow-add, shr_lt}
+use Rattle.std.proofs.Common.{◌≡◌, ℕ, zero, suc, ◌+◌, ◌-◌, ◌*◌, ◌/◌, ◌%◌, ◌^◌, ◌<◌, ◌≤◌, min, max, map, length, sym, refl, ap, ◌∙◌, subst, ap₂, inl, inr, ⊎_elim, mod-lt, div-lt_iff_lt-mul, mul-lt-mul_of_pos_right, div-add-mod', arith, length-append, pow_pos, pow-add, shr_lt}
 use native.Mathlib.Nat.{sub-zero, two-pow-succ, div-eq_of_lt-le}
 use lib.ListN.{length-map}
 use mathlib.Core.List.Memᴰ
@@ -7,7 +7,6 @@ use mathlib.Core.List.{Memᴰ}
 use Rattle.std.proofs.lemmas.List.FromFn.{length-range_with_len}
 use Rattle.std.proofs.lemmas.Bool.{cases_lt, cases_eq}
 use Rattle.std.proofs.lemmas.Bool.Decides.{nat_tests}
-use Rattle.std.specs.List.{range_with_len}
 use Rattle.haar.specs.declared.coefficient.Coefficient.{Coefficient}
 use Rattle.haar.specs.declared.coefficient.Coefficient.TheVariants.{TileSum, Difference}
 use Rattle.haar.specs.Tiles.{Inside, cell_number}

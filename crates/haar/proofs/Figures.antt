@@ -1,12 +1,10 @@
 -- The worked figures, computed from the definitions.
-use Rattle.std.proofs.Common.{◌≡◌, ℕ, zero, suc, ◌<◌, ◌≤◌, Bool, true, false, cond, ◌&&◌, eqb, ℤ, pos, negsuc, ◌-ℤ◌, nat_abs, sym, refl, ap, ◌∙◌, ⊎_elim, arith}
+use Rattle.std.proofs.Common.{◌≡◌, ℕ, zero, suc, ◌<◌, Bool, true, false, ◌&&◌, eqb, ℤ, pos, negsuc, sym, refl, ap, ◌∙◌, ⊎_elim, arith}
 use lib.Ieee.{round}
-use Rattle.std.proofs.lemmas.Int.{ints}
 use Rattle.std.proofs.lemmas.Bool.Decides.{nat_tests}
 use Rattle.std.proofs.lemmas.Bool.{cases_eq}
 use Rattle.haar.specs.Tree.{plain_sum}
-use Rattle.haar.specs.Tiles.{tiles_before, cell_count}
-use Rattle.haar.specs.Haar.{HaarCells}
+use Rattle.haar.specs.Tiles.{tiles_before}
 use Rattle.haar.specs.Count.{touched_coefficients}
 use Rattle.haar.specs.Cells.{haar_cells}
 use Rattle.haar.specs.Figures.{worked_minutes, worked_cells, lookup, Figures}

@@ -1,8 +1,8 @@
 -- The cell of a coefficient from its band, tile and slot, as the code works it out.
-use Rattle.std.proofs.Common.{◌≡◌, ℕ, zero, suc, ◌+◌, ◌-◌, ◌*◌, ◌/◌, ◌%◌, ◌^◌, ◌<◌, ◌≤◌, min, sym, ap, ◌∙◌, sub-one, arith}
+use Rattle.std.proofs.Common.{◌≡◌, ℕ, zero, suc, ◌+◌, ◌-◌, ◌*◌, ◌/◌, ◌%◌, ◌^◌, ◌<◌, ◌≤◌, min, sym, ap, sub-one, arith}
 use Rattle.haar.specs.declared.coefficient.Coefficient.{Coefficient}
 use Rattle.haar.specs.declared.coefficient.Coefficient.TheVariants.{TileSum, Difference}
-use Rattle.haar.specs.Tiles.{band, tile, slot, tiles_before, cell_number, cell_count, Inside}
+use Rattle.haar.specs.Tiles.{band, tile, slot, tiles_before, cell_number, Inside}
 use Rattle.haar.specs.Places.{InTree}
 use Rattle.haar.proofs.Ladder.{rising}
 use Rattle.haar.proofs.Numbers.{before_rises, inside_below}

@@ -1,11 +1,10 @@
 -- Counting the cells that go from zero to nonzero, and a load's cells.
-use Rattle.std.proofs.Common.{◌≡◌, ℕ, zero, suc, ◌+◌, ◌-◌, ◌*◌, ◌<◌, ◌≤◌, ℤ, pos, ◌+ℤ◌, sym, refl, ap, ◌∙◌, subst, ap₂, ⊎_elim, arith}
-use Rattle.std.proofs.lemmas.Int.{ints}
-use Rattle.std.proofs.lemmas.Bool.{cases_lt, cases_eq}
+use Rattle.std.proofs.Common.{◌≡◌, ℕ, zero, suc, ◌+◌, ◌-◌, ◌<◌, ◌≤◌, ℤ, ◌+ℤ◌, ap, subst, ⊎_elim, arith}
+use Rattle.std.proofs.lemmas.Bool.{cases_lt}
 use Rattle.haar.specs.declared.coefficient.Coefficient.{Coefficient}
-use Rattle.haar.specs.Tiles.{cell_number, cell_count, Inside}
+use Rattle.haar.specs.Tiles.{cell_number, cell_count}
 use Rattle.haar.specs.Haar.{value}
-use Rattle.haar.specs.Load.{Chunk, Touched, Loaded}
+use Rattle.haar.specs.Load.{Loaded}
 use Rattle.loads.specs.Reach.{Meets, Found, Past}
 use Rattle.store.specs.Meaning.{weight}
 use Rattle.loads.specs.Loads.{fresh}

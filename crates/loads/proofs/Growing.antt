@@ -1,16 +1,15 @@
 -- The cells of a growth, and writing the total to them.
-use Rattle.std.proofs.Common.{◌≡◌, ℕ, zero, suc, ◌+◌, ◌-◌, ◌*◌, ◌/◌, ◌%◌, ◌^◌, ◌<◌, ◌≤◌, Bool, true, false, cond, ℤ, pos, ◌+ℤ◌, ◌≤ℤ◌, ◌<ℤ◌, Some, None, Option, sym, refl, ap, ◌∙◌, subst, ap₂, inl, inr, ⊎_elim, arith, pow_pos}
+use Rattle.std.proofs.Common.{◌≡◌, ℕ, suc, ◌+◌, ◌-◌, ◌*◌, ◌/◌, ◌^◌, ◌<◌, ◌≤◌, Bool, true, false, cond, ℤ, pos, ◌+ℤ◌, ◌≤ℤ◌, Some, None, Option, sym, refl, ap, ◌∙◌, subst, ap₂, inl, inr, ⊎_elim, arith, pow_pos}
 use native.Mathlib.Nat.{zero-div}
 use Rattle.std.proofs.lemmas.Int.{ints}
-use Rattle.std.proofs.lemmas.Bool.{cases_lt, cases_eq}
+use Rattle.std.proofs.lemmas.Bool.{cases_eq}
 use Rattle.std.proofs.lemmas.Bool.Decides.{nat_tests}
-use Rattle.haar.specs.declared.coefficient.Coefficient.{Coefficient}
 use Rattle.haar.specs.declared.coefficient.Coefficient.TheVariants.{TileSum, Difference}
 use Rattle.haar.specs.Tiles.{cell_number, cell_count, Inside}
 use Rattle.haar.specs.Count.{bands_in_use}
-use Rattle.haar.specs.Growth.{Fills, Grown}
+use Rattle.haar.specs.Growth.{Fills}
 use Rattle.haar.specs.Places.{InTree}
-use Rattle.haar.proofs.Numbers.{one_coefficient, inside_below, sixteen, same_pow}
+use Rattle.haar.proofs.Numbers.{one_coefficient, inside_below}
 use Rattle.store.specs.Meaning.{Meaning, weight, filled, Bars, Put}
 use Rattle.store.proofs.Counting.{put_keeps}
 use Rattle.loads.specs.Growing.{total_cell, top_cell, tile_cell, fills, newly, Topped}

@@ -1,5 +1,5 @@
 -- A chunk's buffer while it is transformed, and after.
-use Rattle.std.proofs.Common.{◌≡◌, ℕ, ◌*◌, ◌^◌, ◌≤◌, List, length, ℤ, sym, ap, ◌∙◌, subst, arith, pow_mono}
+use Rattle.std.proofs.Common.{◌≡◌, ℕ, ◌^◌, ◌≤◌, List, length, ℤ, sym, ap, ◌∙◌, subst, arith, pow_mono}
 use Rattle.loads.specs.Transform.{haar, unhaar, Within, Whole}
 use Rattle.loads.specs.Share.{Ready}
 use Rattle.loads.proofs.Inverse.{length_haar, whole_haar, back_haar}

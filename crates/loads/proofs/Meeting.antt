@@ -1,11 +1,10 @@
 -- Where the touched coefficients of a chunk stand: their tiles, and the coefficient of a cell.
-use Rattle.std.proofs.Common.{◌≡◌, ℕ, zero, suc, ◌+◌, ◌-◌, ◌*◌, ◌/◌, ◌%◌, ◌^◌, ◌<◌, ◌≤◌, min, max, sym, refl, ap, ◌∙◌, subst, ap₂, inl, inr, ⊎_elim, mul-le-mul_right, mod-lt, lt_of_mul-lt-mul_right, div-add-mod', div-one, sub-one, arith, pow_pos, pow_mono, pow-add, shr-shr, shr_lt}
+use Rattle.std.proofs.Common.{◌≡◌, ℕ, zero, suc, ◌+◌, ◌-◌, ◌*◌, ◌/◌, ◌%◌, ◌^◌, ◌<◌, ◌≤◌, min, max, sym, ap, ◌∙◌, subst, ⊎_elim, mul-le-mul_right, mod-lt, lt_of_mul-lt-mul_right, div-add-mod', div-one, sub-one, arith, pow_pos, pow_mono, pow-add, shr-shr, shr_lt}
 use Rattle.std.proofs.lemmas.Bool.{cases_lt, cases_eq}
 use Rattle.haar.specs.declared.coefficient.Coefficient.{Coefficient}
 use Rattle.haar.specs.declared.coefficient.Coefficient.TheVariants.{TileSum, Difference}
 use Rattle.haar.specs.Tiles.{band, tile, slot, depth, tiles_before, cell_number, Inside}
 use Rattle.haar.specs.Count.{bands_in_use}
-use Rattle.haar.specs.Load.{level, index, Touched}
 use Rattle.loads.specs.Reach.{Sits, Spans, Meets, Found, FoundIn}
 use Rattle.haar.proofs.Numbers.{sixteen, same_pow, before_suc, before_rises, Placed, injective, inside_placed, inside_below, slot_bound}
 use Rattle.haar.proofs.Places.{number_at, before_most}

@@ -1,5 +1,5 @@
 -- What a read or a write of a cell inside the count answers.
-use Rattle.std.proofs.Common.{◌≡◌, ℕ, ◌<◌, ℤ, Ok, Err, Result, sym, ap, subst, arith}
+use Rattle.std.proofs.Common.{◌≡◌, ℕ, ◌<◌, ℤ, Ok, Err, Result, sym, subst, arith}
 use Rattle.store.specs.declared.fault.CellFault.{CellFault}
 use Rattle.haar.specs.Tiles.{cell_count}
 use Rattle.store.specs.Meaning.{Meaning, Reads, Writes, Bars}

@@ -1,12 +1,12 @@
 -- What the transformed buffer holds, and what of it is a coefficient's share.
-use Rattle.std.proofs.Common.{◌≡◌, ℕ, zero, suc, ◌+◌, ◌-◌, ◌*◌, ◌/◌, ◌%◌, ◌^◌, ◌<◌, ◌≤◌, min, Bool, cond, eqb, List, ◌++◌, length, get_or, take, drop, set, ℤ, pos, ◌+ℤ◌, ◌-ℤ◌, neg_ℤ, sym, refl, ap, ◌∙◌, subst, ap₂, inl, inr, ⊎_elim, add-zero, mul-le-mul_right, mod-lt, add-mul, div-add-mod', zero-add, mul-suc, sub-one, arith, pow_pos, pow_mono, pow-add, shr_lt}
+use Rattle.std.proofs.Common.{◌≡◌, ℕ, zero, suc, ◌+◌, ◌-◌, ◌*◌, ◌/◌, ◌%◌, ◌^◌, ◌<◌, ◌≤◌, Bool, cond, eqb, List, ◌++◌, length, get_or, take, drop, set, ℤ, pos, ◌+ℤ◌, ◌-ℤ◌, sym, ap, ◌∙◌, subst, ap₂, inl, inr, ⊎_elim, add-zero, mul-le-mul_right, add-mul, mul-suc, sub-one, arith, pow_pos, pow_mono, pow-add, shr_lt}
 use native.Mathlib.Nat.{two-pow-succ}
 use lib.Signed.{quot_z}
-use Rattle.std.proofs.lemmas.List.{length-take-le, length-drop, length-append, length-set, get_or-take, get_or-drop, get_or_append_left, get_or-append_right, get_or-set_other, get_or_past}
+use Rattle.std.proofs.lemmas.List.{length-take-le, length-drop, length-append, get_or-take, get_or-drop, get_or_append_left, get_or-append_right, get_or-set_other, get_or_past}
 use Rattle.std.proofs.lemmas.Nat.{one_shl}
 use Rattle.std.proofs.lemmas.Bool.Decides.{eqb_tells}
 use Rattle.std.proofs.lemmas.Int.{ints}
-use Rattle.std.proofs.lemmas.Bool.{cases_lt, cases_eq}
+use Rattle.std.proofs.lemmas.Bool.{cases_lt}
 use Rattle.haar.specs.Tree.{plain_sum, S, D}
 use Rattle.loads.specs.Transform.{haar, unhaar, joined, Near}
 use Rattle.loads.specs.Share.{alone, Ready}

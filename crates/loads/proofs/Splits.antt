@@ -1,9 +1,8 @@
 -- A chunk's share of a coefficient, from the chunk's own tree.
-use Rattle.std.proofs.Common.{◌≡◌, ℕ, zero, suc, ◌+◌, ◌-◌, ◌*◌, ◌/◌, ◌%◌, ◌^◌, ◌<◌, ◌≤◌, min, cond, eqb, List, get_or, ℤ, pos, neg_ℤ, sym, ap, ◌∙◌, ap₂, mod-lt, div-add-mod', div-one, sub-one, arith, pow_pos}
+use Rattle.std.proofs.Common.{◌≡◌, ℕ, zero, suc, ◌+◌, ◌-◌, ◌*◌, ◌/◌, ◌%◌, ◌^◌, ◌<◌, ◌≤◌, min, List, ℤ, neg_ℤ, sym, ap, ◌∙◌, mod-lt, div-add-mod', div-one, arith, pow_pos}
 use lib.Pow.{high, low}
 use Rattle.std.proofs.lemmas.Bool.{eq-eqb, ne_eqb}
 use Rattle.haar.specs.Tree.{S, D}
-use Rattle.haar.specs.declared.coefficient.Coefficient.{Coefficient}
 use Rattle.haar.specs.declared.coefficient.Coefficient.TheVariants.{TileSum, Difference}
 use Rattle.haar.specs.Haar.{value}
 use Rattle.haar.specs.Load.{Chunk}

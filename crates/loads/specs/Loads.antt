@@ -3,7 +3,7 @@
 --   Small z         a number that a cell may come to hold
 --   Clears, Large   every new number is small, or the lowest that is not
 --   Stored          the cells, room and bands after the load
-use Rattle.std.specs.Prelude.{◌≡◌, ℕ, zero, suc, ◌+◌, ◌-◌, ◌^◌, ◌<◌, ◌≤◌, ℤ, pos, ◌+ℤ◌, ◌≤ℤ◌, Ok, Err, Result}
+use Rattle.std.specs.Prelude.{◌≡◌, ℕ, zero, suc, ◌+◌, ◌-◌, ◌^◌, ◌<◌, ℤ, pos, ◌+ℤ◌, Ok, Err, Result}
 use Rattle.haar.specs.declared.coefficient.Coefficient.{Coefficient}
 use Rattle.haar.specs.Tiles.{cell_number, cell_count}
 use Rattle.haar.specs.Haar.{value}

@@ -1,6 +1,6 @@
 -- Halving a float exactly.
-use Rattle.std.proofs.Common.{◌≡◌, ℕ, zero, suc, ◌+◌, ◌-◌, ◌*◌, ◌^◌, ◌<◌, ◌≤◌, Bool, true, false, ◌⊎◌, ℤ, pos, negsuc, sym, refl, ap, ◌∙◌, subst, inl, inr, lt_of_lt_of_le, mul_assoc, mul_comm, eq-or-lt_of_le, mul-pos, one-mul, mul-one, arith, pow_pos, pow_mono, pow-add, shl_lt}
-use lib.Ieee.{Float, nan, inf, fin, binary64, up, down, round, div, of_bits, of_fields, low}
+use Rattle.std.proofs.Common.{◌≡◌, ℕ, suc, ◌+◌, ◌-◌, ◌*◌, ◌^◌, ◌<◌, ◌≤◌, true, false, ℤ, pos, negsuc, sym, refl, ap, ◌∙◌, inl, inr, lt_of_lt_of_le, mul_assoc, mul_comm, eq-or-lt_of_le, mul-pos, one-mul, mul-one, arith, pow_pos, pow_mono, pow-add, shl_lt}
+use lib.Ieee.{Float, nan, inf, fin, binary64, up, down, round, div, of_bits, of_fields}
 use lib.Ieee.Exact.{HasValue, round_exact}
 use lib.Ieee.Scale.{round_same}
 

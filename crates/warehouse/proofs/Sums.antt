@@ -1,5 +1,5 @@
 -- Reading Haar cells back gives plain sums.
-use Rattle.std.proofs.Common.{◌≡◌, ℕ, zero, suc, ◌+◌, ◌-◌, ◌*◌, ◌/◌, ◌%◌, ◌^◌, ◌<◌, ◌≤◌, cond, eqb, ltb, leb, ◌⊎◌, ◌∷◌, ℤ, pos, negsuc, ◌+ℤ◌, ◌-ℤ◌, nat_abs, Ok, Err, sym, refl, ap, ◌∙◌, ap₂, ⊎_elim, add-zero, lt_of_mul-lt-mul_right, div-one, arith, pow_pos, pow-add, shr-shr}
+use Rattle.std.proofs.Common.{◌≡◌, ℕ, zero, suc, ◌+◌, ◌-◌, ◌*◌, ◌/◌, ◌%◌, ◌^◌, ◌<◌, ◌≤◌, cond, eqb, ltb, leb, ◌∷◌, ℤ, pos, negsuc, ◌+ℤ◌, ◌-ℤ◌, nat_abs, Ok, Err, sym, refl, ap, ◌∙◌, ap₂, ⊎_elim, add-zero, lt_of_mul-lt-mul_right, div-one, arith, pow_pos, pow-add, shr-shr}
 use native.Mathlib.Nat.{two-pow-succ, sub-zero}
 use lib.Pow.{split as divided}
 use Rattle.std.proofs.lemmas.Int.{ints}

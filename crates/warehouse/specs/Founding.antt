@@ -2,7 +2,7 @@
 --   Founded       a view that a survey accepts: nothing is in it yet
 --   Unfit         why a survey refuses a store for a size
 --   Taken         what taking over makes
-use Rattle.std.specs.Prelude.{◌≡◌, ℕ, ◌*◌, ◌<◌, ◌≤◌, min, ◌⊎◌, ℤ, pos, ◌≤ℤ◌, ◌<ℤ◌, Ok, Err, Result, ◌≢◌}
+use Rattle.std.specs.Prelude.{◌≡◌, ℕ, ◌*◌, ◌<◌, ◌≤◌, min, ◌⊎◌, pos, ◌≤ℤ◌, ◌<ℤ◌, Ok, Err, Result, ◌≢◌}
 use Rattle.haar.specs.Tiles.{cell_count}
 use Rattle.store.specs.Meaning.{Meaning}
 use Rattle.warehouse.specs.declared.fault.Asked.TheVariants as asked

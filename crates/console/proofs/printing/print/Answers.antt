@@ -1,4 +1,4 @@
-use Rattle.std.proofs.Common.{◌≡◌, sym, ap, ◌∙◌, subst, append-nil}
+use Rattle.std.proofs.Common.{sym, ap, ◌∙◌, subst, append-nil}
 use Rattle.feedlaw.specs.Lines.{shown, text}
 use Rattle.wire.specs.Line.{line_bytes}
 use Rattle.console.specs.Ends.{Takes}

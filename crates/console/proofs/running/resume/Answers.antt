@@ -1,7 +1,6 @@
-use Rattle.std.proofs.Common.{Ok, ap, subst}
+use Rattle.std.proofs.Common.{Ok, subst}
 use Rattle.warehouse.specs.View.{view}
 use Rattle.feed.specs.declared.state.Loading.TheVariants.{Idle}
-use Rattle.feed.specs.Step.{ending}
 use Rattle.feedlaw.specs.Lines.{shown, text}
 use Rattle.console.specs.Ends.{Takes}
 use Rattle.console.specs.Playing.{state}

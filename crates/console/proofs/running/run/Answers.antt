@@ -1,5 +1,4 @@
-use Rattle.std.proofs.Common.{sym, ap, subst, ap₂}
-use Rattle.warehouse.specs.Founding.{cut}
+use Rattle.std.proofs.Common.{subst, ap₂}
 use Rattle.warehouse.specs.View.{view}
 use Rattle.console.specs.Running.{Resumed}
 use Rattle.console.proofs.Runs.{ran}

@@ -1,5 +1,3 @@
-use Rattle.feedlaw.proofs.Telling.{text_append}
-use Rattle.feedlaw.proofs.Prefixes.{decoded_more}
 use Rattle.feedlaw.proofs.Obeying.{obeyed_right}
 use Rattle.feedlaw.proofs.laws.obeyed_stands.Goals as goal
 

@@ -1,4 +1,4 @@
-use Rattle.std.proofs.Common.{◌+◌, ◌-◌, ◌*◌, ◌/◌, arith, rules}
+use Rattle.std.proofs.Common.{◌+◌, ◌-◌, ◌*◌, ◌/◌, arith}
 use Rattle.std.proofs.lemmas.Nat.{one_shl}
 use Rattle.haar.proofs.Places.{difference_parts}
 use Rattle.haar.proofs.cells.difference_cell.Goals as goal

@@ -1,4 +1,4 @@
-use Rattle.std.proofs.Common.{◌≡◌, ◌-◌, ◌/◌, ap, arith}
+use Rattle.std.proofs.Common.{◌/◌, ap, arith}
 use Rattle.haar.proofs.Places.{sum_parts}
 use Rattle.haar.proofs.cells.sum_cell.Goals as goal
 

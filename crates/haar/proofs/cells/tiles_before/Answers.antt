@@ -1,4 +1,4 @@
-use Rattle.std.proofs.Common.{◌≡◌, ℕ, ◌≤◌, min, sym, refl, ap, ◌∙◌, arith}
+use Rattle.std.proofs.Common.{◌≡◌, min, sym, ap, arith}
 use Rattle.haar.specs.Tiles.{tiles_before}
 use Rattle.haar.proofs.cells.tiles_before.Goals as goal
 

@@ -1,6 +1,5 @@
-use Rattle.std.proofs.Common.{◌≡◌, ◌+◌, ◌-◌, ◌≤◌, ℤ, ◌+ℤ◌, sym, ap, ◌∙◌, subst, ap₂, arith, w64, SFits, to_z, of_z, rules}
+use Rattle.std.proofs.Common.{◌+◌, ◌-◌, ◌+ℤ◌, sym, ap, ◌∙◌, subst, ap₂, arith, w64, SFits, to_z, of_z, rules}
 use Rattle.std.proofs.lemmas.Int.{to_z-of_z}
-use Rattle.haar.specs.Tiles.{cell_count}
 use Rattle.store.specs.Meaning.{weight}
 use Rattle.loads.specs.Loads.{Small}
 use Rattle.loads.proofs.Reading.{read_is, read_done}

@@ -1,10 +1,7 @@
-use Rattle.std.proofs.Common.{◌≡◌, ◌+◌, ◌-◌, ◌<◌, ◌≤◌, ℤ, ◌+ℤ◌, sym, refl, ap, ◌∙◌, subst, ap₂, arith, w64, SFits, to_z, of_z, rules}
-use Rattle.std.proofs.lemmas.Int.{to_z-of_z, ints}
-use Rattle.haar.specs.Tiles.{cell_count}
+use Rattle.std.proofs.Common.{refl, arith, w64, SFits, rules}
 use Rattle.haar.proofs.Load.{some_load}
 use Rattle.loads.proofs.Splits.{minutes_chunk}
-use Rattle.loads.specs.Loads.{Small}
-use Rattle.loads.proofs.Reading.{read_is, read_done, write_done}
+use Rattle.loads.proofs.Reading.{read_done, write_done}
 use Rattle.loads.proofs.Seen.{count_most}
 use Rattle.loads.proofs.Partly.{partly_start, cell_in, cell_open, sum_fits, new_is, partly_step, partly_end}
 use Rattle.loads.proofs.cells.write_cells.Goals as goal

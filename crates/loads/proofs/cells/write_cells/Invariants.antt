@@ -1,4 +1,4 @@
-use Rattle.std.proofs.Common.{ℕ, ◌-◌, ◌^◌, ◌≤◌}
+use Rattle.std.proofs.Common.{◌-◌, ◌^◌}
 use Rattle.loads.specs.Share.{minutes}
 use Rattle.loads.specs.Transform.{unhaar}
 use Rattle.loads.proofs.Partly.{Partly}

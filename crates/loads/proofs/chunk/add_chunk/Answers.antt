@@ -1,7 +1,5 @@
-use Rattle.std.proofs.Common.{◌≡◌, sym, refl, ◌∙◌, subst, arith, rules}
-use Rattle.loads.specs.Share.{minutes}
+use Rattle.std.proofs.Common.{sym, refl, ◌∙◌, arith}
 use Rattle.loads.proofs.Splits.{minutes_chunk}
-use Rattle.loads.specs.Loads.{Large, Clears, Stored}
 use Rattle.loads.proofs.Guarded.{back, restored, ready, droppable}
 use Rattle.loads.proofs.Adding.{same_large, same_clears, same_stored, crowded, fits_any, took}
 use Rattle.loads.proofs.chunk.add_chunk.Goals as goal

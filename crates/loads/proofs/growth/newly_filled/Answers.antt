@@ -1,4 +1,4 @@
-use Rattle.std.proofs.Common.{◌≡◌, ◌<◌, sym, subst}
+use Rattle.std.proofs.Common.{◌<◌, sym, subst}
 use Rattle.haar.specs.Tiles.{cell_count}
 use Rattle.loads.proofs.Growing.{some_tile, fills_is, top_below, tile_below}
 use Rattle.loads.proofs.growth.newly_filled.Goals as goal

@@ -1,4 +1,4 @@
-use Rattle.std.proofs.Common.{◌≡◌, ◌*◌, ◌<◌, sym, ap, ◌∙◌, subst, arith}
+use Rattle.std.proofs.Common.{◌*◌, ◌<◌, sym, ap, ◌∙◌, subst, arith}
 use Rattle.haar.specs.Tiles.{cell_count}
 use Rattle.loads.specs.Growing.{total_cell}
 use Rattle.loads.proofs.Growing.{total_below}

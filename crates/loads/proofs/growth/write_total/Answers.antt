@@ -1,4 +1,4 @@
-use Rattle.std.proofs.Common.{◌≡◌, ◌<◌, sym, ◌∙◌, subst, w64}
+use Rattle.std.proofs.Common.{◌<◌, sym, subst, w64}
 use Rattle.std.proofs.lemmas.Int.{to_z-of_z}
 use Rattle.haar.specs.Tiles.{cell_count}
 use Rattle.loads.specs.Growing.{top_cell, tile_cell}

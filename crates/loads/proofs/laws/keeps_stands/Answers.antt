@@ -1,4 +1,4 @@
-use Rattle.std.proofs.Common.{◌≡◌, ℕ, ℤ, ◌+ℤ◌, sym, subst}
+use Rattle.std.proofs.Common.{◌+ℤ◌, sym, subst}
 use Rattle.haar.specs.Haar.{HaarCells}
 use Rattle.haar.proofs.Load.{loaded}
 use Rattle.loads.specs.Share.{minutes}

@@ -1,13 +1,11 @@
-use Rattle.std.proofs.Common.{◌≡◌, ℕ, ◌+◌, ◌-◌, ◌*◌, ◌/◌, ◌%◌, ◌^◌, ◌<◌, ◌≤◌, ℤ, pos, ◌-ℤ◌, neg_ℤ, sym, refl, ap, ◌∙◌, subst, arith, w64, SFits, rules}
+use Rattle.std.proofs.Common.{◌≡◌, ◌+◌, ◌-◌, ◌*◌, ◌%◌, pos, ◌-ℤ◌, neg_ℤ, ap, ◌∙◌, arith, w64, SFits, rules}
 use Rattle.std.proofs.lemmas.Nat.{one_shl}
 use Rattle.std.proofs.lemmas.Int.{to_z-of_z, ints}
-use Rattle.haar.specs.declared.coefficient.Coefficient.{Coefficient}
 use Rattle.haar.specs.declared.coefficient.Coefficient.TheVariants.{TileSum, Difference}
 use Rattle.haar.specs.Tree.{S, D}
-use Rattle.haar.specs.Haar.{value}
 use Rattle.loads.specs.Reach.{Meets}
 use Rattle.loads.specs.Transform.{unhaar}
-use Rattle.loads.specs.Share.{minutes, alone}
+use Rattle.loads.specs.Share.{alone}
 use Rattle.loads.proofs.Splits.{share_diff, share_sum, share_left, share_right, share_over}
 use Rattle.loads.proofs.share.share.Goals as goal
 

@@ -1,5 +1,5 @@
 use Rattle.std.proofs.Common.{◌^◌, get_or, pos, sym, ◌∙◌, subst, arith, pow_pos, w64, SFits, rules}
-use Rattle.std.proofs.lemmas.Int.{to_z-of_z, ints}
+use Rattle.std.proofs.lemmas.Int.{to_z-of_z}
 use Rattle.loads.specs.Transform.{Near}
 use Rattle.loads.proofs.Shares.{ready_length, ready_sum, sum_near}
 use Rattle.loads.proofs.share.whole_sum.Goals as goal

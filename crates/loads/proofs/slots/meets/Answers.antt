@@ -1,5 +1,4 @@
-use Rattle.std.proofs.Common.{◌≡◌, ◌-◌, ◌/◌, ◌^◌, sym, subst, arith, rules}
-use Rattle.loads.specs.Reach.{Meets}
+use Rattle.std.proofs.Common.{◌≡◌, ◌-◌, ◌/◌, ◌^◌, sym, subst, arith}
 use Rattle.loads.proofs.Meeting.{sum_meets, diff_meets}
 use Rattle.loads.proofs.slots.meets.Goals as goal
 

@@ -1,6 +1,6 @@
-use Rattle.std.proofs.Common.{◌≡◌, ◌+◌, ◌-◌, ◌*◌, ◌<◌, ◌≤◌, sym, subst, ⊎_elim, arith}
+use Rattle.std.proofs.Common.{◌≡◌, subst, ⊎_elim, arith}
 use Rattle.std.proofs.lemmas.Bool.{cases_lt, cases_eq}
-use Rattle.haar.specs.Tiles.{tiles_before, cell_number}
+use Rattle.haar.specs.Tiles.{cell_number}
 use Rattle.loads.specs.Reach.{Meets}
 use Rattle.loads.proofs.Meeting.{in_span, span_inside, cell_one}
 use Rattle.loads.proofs.touched.next_in_band.Goals as goal

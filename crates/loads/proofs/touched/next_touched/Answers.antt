@@ -1,5 +1,5 @@
 use Rattle.std.proofs.Common.{arith}
-use Rattle.loads.proofs.Meeting.{first_of, band_used}
+use Rattle.loads.proofs.Meeting.{first_of}
 use Rattle.loads.proofs.touched.next_touched.Goals as goal
 
 pub returns-in-Some : goal.returns-in-Some

@@ -1,4 +1,4 @@
-use Rattle.std.proofs.Common.{◌≡◌, ℕ, suc, ◌+◌, ◌-◌, ◌*◌, ◌/◌, ◌^◌, ◌<◌, ◌≤◌, List, ◌++◌, length, take, drop, ℤ, sym, refl, ap, ◌∙◌, subst, add-one, arith, pow_pos, pow-add, rules}
+use Rattle.std.proofs.Common.{◌≡◌, ℕ, ◌+◌, ◌-◌, ◌*◌, ◌/◌, ◌^◌, List, length, take, drop, ℤ, sym, ap, ◌∙◌, subst, add-one, arith, pow_pos, pow-add, rules}
 use Rattle.std.proofs.lemmas.List.{length-take-le, length-drop}
 use Rattle.loads.specs.Transform.{unhaar, parted, Whole}
 use Rattle.loads.proofs.Inverse.{second, both, half, restore_step, whole_parts, Parts}

@@ -1,4 +1,4 @@
-use Rattle.std.proofs.Common.{◌≡◌, ℕ, suc, ◌+◌, ◌-◌, ◌*◌, ◌/◌, ◌^◌, ◌<◌, ◌≤◌, List, ◌++◌, length, take, drop, ℤ, sym, refl, ap, ◌∙◌, subst, add-one, arith, pow_pos, pow_mono, pow-add, rules}
+use Rattle.std.proofs.Common.{◌≡◌, ℕ, ◌+◌, ◌-◌, ◌*◌, ◌/◌, ◌^◌, ◌<◌, ◌≤◌, List, ◌++◌, length, take, drop, ℤ, sym, ap, ◌∙◌, subst, add-one, arith, pow_pos, pow_mono, pow-add, rules}
 use Rattle.std.proofs.lemmas.List.{length-take-le, length-drop, length-append}
 use Rattle.loads.specs.Transform.{haar, joined, Within}
 use Rattle.loads.proofs.Inverse.{second, both, half, within_take, within_drop, within_haar, within_append, within_more, length_haar, transform_step}

@@ -1,6 +1,6 @@
-use Rattle.std.proofs.Common.{get_or, pos, ◌+ℤ◌, ◌-ℤ◌, arith, w64, SFits, rules}
+use Rattle.std.proofs.Common.{get_or, pos, ◌+ℤ◌, ◌-ℤ◌, w64, SFits, rules}
 use lib.Signed.{quot_z}
-use Rattle.std.proofs.lemmas.Int.{to_z-of_z, ints}
+use Rattle.std.proofs.lemmas.Int.{to_z-of_z}
 use Rattle.loads.proofs.transform.part.Goals as goal
 
 pub returns : goal.returns

@@ -1,4 +1,4 @@
-use Rattle.std.proofs.Common.{◌≡◌, ℕ, ◌+◌, ◌-◌, ◌^◌, ◌≤◌, false, sym, refl, ap, ◌∙◌, arith, rules}
+use Rattle.std.proofs.Common.{◌≡◌, ℕ, ◌+◌, ◌-◌, ◌^◌, false, refl, ap, ◌∙◌, arith}
 use lib.Ieee.{Float, of_int, div, round, binary64}
 use Rattle.warehouse.proofs.Halving.{halve, two}
 use Rattle.warehouse.proofs.trend.halved.Goals as goal

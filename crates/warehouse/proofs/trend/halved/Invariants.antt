@@ -1,4 +1,4 @@
-use Rattle.std.proofs.Common.{◌≡◌, ◌≤◌}
+use Rattle.std.proofs.Common.{◌≡◌}
 use Rattle.haar.specs.Trend.{amount}
 use Rattle.warehouse.proofs.trend.halved.Given as goal
 

@@ -1,4 +1,4 @@
-use Rattle.std.proofs.Common.{◌-◌, take, drop, ap, ◌∙◌, arith, length-append, length-drop, length-take, take_all, rules}
+use Rattle.std.proofs.Common.{◌-◌, take, drop, ap, ◌∙◌, arith, length-append, length-drop, length-take, take_all}
 use borrow.Rule.Slice.PartMut.{post_of}
 use native.Mathlib.Nat.{sub-zero}
 use Rattle.console.proofs.Fronts.{gave_front}

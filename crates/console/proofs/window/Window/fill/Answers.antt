@@ -1,5 +1,4 @@
-use Rattle.std.proofs.Common.{◌≡◌, ◌<◌, ◌≤◌, length, take, ◌∙◌, arith, length-take, rules}
-use Rattle.console.specs.Ends.{Gave}
+use Rattle.std.proofs.Common.{take, ◌∙◌, arith, length-take, rules}
 use Rattle.console.proofs.Fronts.{filled}
 use Rattle.console.proofs.window.Window.fill.Goals as goal
 

@@ -15,9 +15,8 @@ fn tiles_met(level: u32, band: u32) -> u32
     }
 }
 
-// W(level, size), for the console's host program: 0 where there is no such load.
-#[unsafe(no_mangle)]
-pub extern "C" fn cells_written(level: u32, size: u32) -> u32
+// W(level, size): 0 where there is no such load.
+pub fn cells_written(level: u32, size: u32) -> u32
     ensures { Written level size result }
 {
     if level > 12 || level > size || size > 20 {

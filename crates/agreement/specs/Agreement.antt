@@ -1,6 +1,6 @@
 -- What holds of a warehouse after any history, and of any two.
 --   Right              a call was answered as the definitions answer it on the recount
---   AllRight          each call of a history was, at its time
+--   AllRight           each call of a history was, at its time
 --   Confined           a load wrote its subtree and root path, W cells, and no other
 --   Sound              all that holds of one warehouse
 --   Shared             equal sizes and equal minutes give equal cells
@@ -64,13 +64,13 @@ Shared kept fresh t u =
 -- whatever foundings, on stores with equally many bands, and whatever histories brought two warehouses to these views
 abbrev pub Agreement : View → View → Type 0
 Agreement kept fresh =
-    (kept-founding fresh-founding : View) (kept-history fresh-history : History)
-    → kept-founding.store.bands ≡ fresh-founding.store.bands
-    → Leads kept-founding kept-history kept
-    → Leads fresh-founding fresh-history fresh
-    → Sound kept-founding kept-history kept
-    × Sound fresh-founding fresh-history fresh
-    × Shared kept fresh (tally kept-founding.size kept-history) (tally fresh-founding.size fresh-history)
+    (kept_founding fresh_founding : View) (kept_history fresh_history : History)
+    → kept_founding.store.bands ≡ fresh_founding.store.bands
+    → Leads kept_founding kept_history kept
+    → Leads fresh_founding fresh_history fresh
+    → Sound kept_founding kept_history kept
+    × Sound fresh_founding fresh_history fresh
+    × Shared kept fresh (tally kept_founding.size kept_history) (tally fresh_founding.size fresh_history)
 
 abbrev pub AgreementHolds : Type 0
 AgreementHolds = (kept fresh : View) → Agreement kept fresh

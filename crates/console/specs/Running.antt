@@ -2,7 +2,7 @@
 --   zs              the values in the buffer at first; what it holds afterwards is free
 --   Whole           the source gave some bytes, and the sink took their lines
 --   Resumed         the answer of a run on a warehouse, whatever its history
---   LongFeed       more bytes came than 64 bits count
+--   LongFeed        more bytes came than 64 bits count
 --   Ran             the answer of a run on a store: the law of a feed
 use Rattle.std.specs.Prelude.{ℕ, ◌^◌, ◌≤◌, List, ◌++◌, length, ℤ, Ok, Err, Result}
 use Rattle.store.specs.Meaning.{Meaning}

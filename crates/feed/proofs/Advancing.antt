@@ -14,10 +14,10 @@ rest_of (Ok p) = p.1
 rest_of (Err f) = []
 
 -- the rest is what stands after some first bytes
-abbrev Goes_on : List ℕ → List ℕ → Type 0
-Goes_on bs rest = (k : ℕ) × ((0 < k) × (k ≤ length bs) × (rest ≡ drop k bs))
+abbrev GoesOn : List ℕ → List ℕ → Type 0
+GoesOn bs rest = (k : ℕ) × ((0 < k) × (k ≤ length bs) × (rest ≡ drop k bs))
 
-as_rest : (r : Row) (bs rest : List ℕ) (c : Command) → decoded_as r bs ≡ Ok (c, rest) → Goes_on bs rest
+as_rest : (r : Row) (bs rest : List ℕ) (c : Command) → decoded_as r bs ≡ Ok (c, rest) → GoesOn bs rest
 unfolding rest_of
 as_rest r bs rest c e =
     elim (cases_lt (length bs) (1 + r.width)) [
@@ -30,7 +30,7 @@ as_rest r bs rest c e =
           (1 + r.width, (omega arith, le, ap rest_of (sym e ∙ whole)))
     ]
 
-by_rest : (rs : List Row) (bs rest : List ℕ) (c : Command) → decoded_by rs bs ≡ Ok (c, rest) → Goes_on bs rest
+by_rest : (rs : List Row) (bs rest : List ℕ) (c : Command) → decoded_by rs bs ≡ Ok (c, rest) → GoesOn bs rest
 by_rest [] bs rest c e = absurd (let z : ◌≡◌ {A = ℕ} 0 1 = cc in omega arith)
 by_rest (r ∷ rs) bs rest c e =
     elim (cases_eq (get_or bs 0 0) r.letter) [
@@ -38,7 +38,7 @@ by_rest (r ∷ rs) bs rest c e =
       | inr ne ↦ by_rest rs bs rest c (sym (cond-false (eqb (get_or bs 0 0) r.letter) (decoded_as r bs) (decoded_by rs bs) (ne_eqb _ _ ne)) ∙ e)
     ]
 
-goes_on : (bs rest : List ℕ) (c : Command) → decoded bs ≡ Ok (c, rest) → Goes_on bs rest
+goes_on : (bs rest : List ℕ) (c : Command) → decoded bs ≡ Ok (c, rest) → GoesOn bs rest
 goes_on bs rest c e =
     elim (cases_eq (length bs) 0) [
       | inl q ↦

@@ -1,7 +1,7 @@
 -- The step of a feed and its recount.
 --   load_of       an open load by its numbers
 --   Turns         what a command did to a warehouse with a history is what the recount of that history says
---   ObeyedRight  every command, on every such warehouse
+--   ObeyedRight   every command, on every such warehouse
 use Rattle.std.specs.Prelude.{◌≡◌, ℕ, List, ℤ}
 use Rattle.warehouse.specs.View.{View}
 use Rattle.wire.specs.declared.command.Command.{Command}

@@ -3,7 +3,7 @@
 use anyhow::anyhow;
 use console::ends::{Broken, Sink, Source};
 use std::alloc::Global;
-use std::io::{BufWriter, Read, Stdin, Stdout, Write};
+use std::io::{BufWriter, ErrorKind, Read, Stdin, Stdout, Write};
 
 #[derive(Drop)]
 pub struct Input {
@@ -31,13 +31,18 @@ impl Source for Input {
     ghost broken = { λ _. Unit {0} };
 
     fn read(&mut self, buffer: &mut [u8]) -> Result<usize, Broken> {
-        match self.stdin.read(buffer) {
-            Ok(many) => Ok(many),
-            Err(error) => {
-                self.error = Some(error.into());
-                Err(Broken)
+        for _ in 0..u64::MAX {
+            match self.stdin.read(buffer) {
+                Ok(many) => return Ok(many),
+                // a signal came: nothing was read
+                Err(error) if error.kind() == ErrorKind::Interrupted => {}
+                Err(error) => {
+                    self.error = Some(error.into());
+                    return Err(Broken);
+                }
             }
         }
+        Err(Broken)
     }
 }
 

@@ -1,7 +1,7 @@
 -- What the calls for cells and counts answer, for every input.
 --   DifferenceCell   the cell of D(j,k) in a store of T bands, if its tree has that difference
 --   SumCell          slot 0 of the tile from which S(j,k) is read, if its tree has that sum
---   Written           W(m,n), and 0 where there is no such load
+--   Written          W(m,n), and 0 where there is no such load
 use Rattle.std.specs.Prelude.{◌≡◌, ℕ, ◌+◌, ◌-◌, ◌*◌, ◌/◌, ◌^◌, ◌<◌, ◌≤◌, ◌⊎◌, Some, None, Option}
 use Rattle.haar.specs.declared.coefficient.Coefficient.TheVariants.{TileSum, Difference}
 use Rattle.haar.specs.Tiles.{cell_number}

@@ -4,7 +4,7 @@
 --   fresh N es n x     how many of the first n entries are for a cell below N that is zero in x
 --   held_over es n m   what the first n entries over a store that means m mean as a store
 --   Alike m n          n is m in all that a store is known by
---   ZeroAt m c r      r says whether the store m has the cell c, and it is zero
+--   ZeroAt m c r       r says whether the store m has the cell c, and it is zero
 --   Forgotten          a table without its entry for a cell, if it had one
 use Rattle.std.specs.Prelude.{◌≡◌, ℕ, zero, suc, ◌+◌, ◌-◌, ◌<◌, Bool, true, false, cond, List, ℤ, pos, negsuc, ◌-ℤ◌, ◌==◌, ◌≢◌, nat_lt}
 use Rattle.haar.specs.Tiles.{cell_count}

@@ -1,5 +1,5 @@
 -- What the questions answer where the cells are the Haar cells of some data: the data's own sums, and never Torn.
---   Holds v f       the cells of the view v are those of the data f, each within the limit
+--   Holds v f      the cells of the view v are those of the data f, each within the limit
 --   ReadsBack      minutes, sums and means inside the size are answered by plain sums of the data
 --   WithoutBands   a store without bands has one minute, and refuses its cell
 use Rattle.std.specs.Prelude.{◌≡◌, ℕ, ◌-◌, ◌*◌, ◌^◌, ◌<◌, ◌≤◌, ℤ, Ok, Err, unsigned_abs}

@@ -1,5 +1,5 @@
 -- The laws of reading back, on any cells, each proved by the contract of a function that names it.
---   Greedy n a b ps   the intervals ps follow one another from a to b, each the longest that starts there
+--   Greedy n a b ps  the intervals ps follow one another from a to b, each the longest that starts there
 --   SplitGreedy      a range is split so
 --   SplitFew         into at most 42 intervals
 --   HalvedExactly    twice a half is the sum with its difference, or without it; Torn where there is no such half

@@ -3,8 +3,8 @@
 -- four_bytes n        the bytes of a number below 2^32, most significant first
 -- bits_of z           the 32 bits of a signed number, as a number
 -- encode c            the letter of a command and its operands
--- InRange c          its operands fit their widths
--- DecodesEncoded     a command that was encoded is decoded, whatever stands after it
+-- InRange c           its operands fit their widths
+-- DecodesEncoded      a command that was encoded is decoded, whatever stands after it
 use Rattle.std.specs.Prelude.{◌≡◌, ℕ, ◌-◌, ◌/◌, ◌%◌, ◌^◌, ◌<◌, List, [], ◌∷◌, ◌++◌, ℤ, pos, negsuc, Ok}
 use Rattle.wire.specs.Decode.{decoded}
 use Rattle.wire.specs.declared.command.Command.{Command}

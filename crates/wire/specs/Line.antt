@@ -3,10 +3,10 @@
 -- decimal n, signed z   the digits of a number, with a minus sign before a negative one (the standard library's words)
 -- field n               a space, then the number
 -- line_bytes l          the letter, the fields, and the newline of a line
--- WritesLine l ..      what a buffer holds after the line was written into it, and what the call returned
+-- WritesLine l ..       what a buffer holds after the line was written into it, and what the call returned
 -- line_fault_number     the number under which a fault is reported
--- InRangeLine l       the numbers of a line fit their widths
--- LinesApart           two such lines with the same bytes are the same line
+-- InRangeLine l         the numbers of a line fit their widths
+-- LinesApart            two such lines with the same bytes are the same line
 use Rattle.std.specs.Prelude.{◌≡◌, ℕ, ◌^◌, ◌<◌, ◌≤◌, List, [], ◌∷◌, ◌++◌, length, drop, ℤ, pos, negsuc, Ok, Err, decimal, Result}
 use Rattle.std.specs.Fmt.{signed_decimal}
 use Rattle.wire.specs.declared.line.Line.{Line}

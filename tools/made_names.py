@@ -1,39 +1,50 @@
 #!/usr/bin/env python3
-"""Turns the names that the check makes, in proofs/F/ of a crate: a name from the source keeps its underscores."""
-import glob, re, sys
-top, crates = sys.argv[1], sys.argv[2:]
+"""Turns, in proof files, the names that the check makes: there a name from the source keeps its underscores, as in
+`push_decimal-requires` for `push-decimal-requires`. Run at the top, after tools/respell.py, with the crates' names."""
+import glob
+import re
+import sys
+
 WORD = r"[A-Za-z_][A-Za-z0-9_']*(?:-[A-Za-z0-9_']+)+"
-idents = set()
-for f in glob.glob(top + '/crates/*/src/**/*.rt', recursive=True):
-    t = open(f).read()
-    t = re.sub(r'//.*', '', t)
-    idents |= {w for w in re.findall(r"[A-Za-z][A-Za-z0-9]*(?:_[A-Za-z0-9]+)+", t)}
-idents |= {'into_iter', 'from_residual', 'unsigned_abs', 'in_default', 'push_within_capacity', 'copy_from_slice', 'add_assign', 'sub_assign', 'index_mut', 'invariant_of', 'in_err', 'in_ok', 'in_some', 'in_none', 'offset_bounds', 'split_at_mut'}
-for op in 'add sub mul div rem cast shl shr neg'.split():
-    idents |= {'overflow_' + op, 'nonzero_' + op}
-def conv(tok):
-    parts = tok.split('-')
-    out, i = [], 0
-    while i < len(parts):
-        for j in range(len(parts), i + 1, -1):
-            cand = '_'.join(parts[i:j])
-            if cand in idents or (i == 0 and j - i > 1 and cand[0].isupper() and cand in idents):
-                out.append(cand); i = j
-                break
-        else:
-            out.append(parts[i]); i += 1
-    return '-'.join(out)
-changed = 0
-for c in crates:
-    for f in glob.glob(f'{top}/crates/{c}/proofs/**/*.antt', recursive=True):
-        t = open(f).read()
-        if 'Goals' not in t and 'Given' not in t: continue
-        kit = set()
-        for line in re.findall(r"^(?:pub )?use (?:Rattle\.std|lib|mathlib|Prim)[.\w+]*\.\{([^}]*)\}", t, re.M):
-            kit |= {x.strip().split(' as ')[-1] for x in line.split(',')}
-        def sub(m):
-            return m.group(0) if m.group(0) in kit else conv(m.group(0))
-        n = re.sub(r"(?<![A-Za-z0-9_'-])" + WORD, sub, t)
-        if n != t:
-            open(f, 'w').write(n); changed += 1
-print(changed, 'files')
+KIT_IMPORT = r"^(?:pub )?use (?:Rattle\.std|lib|mathlib|Prim)[.\w+]*\.\{([^}]*)\}"
+# Words of the check, and functions that the source calls without naming them.
+MADE = "in_default in_err in_ok in_some in_none invariant_of offset_bounds from_residual into_iter unsigned_abs"
+OPERATIONS = "add sub mul div rem cast shl shr neg"
+
+
+def source_names():
+    names = set(MADE.split())
+    for operation in OPERATIONS.split():
+        names |= {"overflow_" + operation, "nonzero_" + operation}
+    for path in glob.glob("crates/*/src/**/*.rt", recursive=True):
+        code = re.sub(r"//.*", "", open(path).read())
+        names |= set(re.findall(r"[A-Za-z][A-Za-z0-9]*(?:_[A-Za-z0-9]+)+", code))
+    return names
+
+
+def turned(word, names):
+    parts, out = word.split("-"), []
+    while parts:
+        ends = range(len(parts), 1, -1)
+        many = next((k for k in ends if "_".join(parts[:k]) in names), 1)
+        out.append("_".join(parts[:many]))
+        parts = parts[many:]
+    return "-".join(out)
+
+
+def main():
+    names, changed = source_names(), 0
+    for crate in sys.argv[1:]:
+        for path in glob.glob(f"crates/{crate}/proofs/**/*.antt", recursive=True):
+            text = open(path).read()
+            if "Goals" not in text and "Given" not in text:
+                continue
+            kit = {item.strip().split(" as ")[-1] for line in re.findall(KIT_IMPORT, text, re.M) for item in line.split(",")}
+            new = re.sub(r"(?<![A-Za-z0-9_'-])" + WORD, lambda m: m[0] if m[0] in kit else turned(m[0], names), text)
+            if new != text:
+                open(path, "w").write(new)
+                changed += 1
+    print(changed, "files")
+
+
+main()

@@ -4,7 +4,8 @@ in upper camel case. Run once, at the top, right after the kit's port.py.
 
 A name is turned where it is declared at the left margin of a file of specs/ or proofs/, in a module there, or as a
 field of a record; pages take the facts alone. Names that the check makes (`goal.` at the declaration, fields of `c`,
-`l` and `w`) and names of the kit stay, and so do functions, strings, inputs and outputs. With --list the names are printed and nothing is written."""
+`l` and `w`) and names of the kit stay, and so do functions, strings, inputs and outputs. With --list the names are
+printed and nothing is written."""
 import glob
 import re
 import sys
@@ -16,8 +17,8 @@ EDITS = sorted(glob.glob("crates/*/must-fail/*.edit"))
 PAGES = sorted(glob.glob("docs/*.md") + ["README.md"])
 # Names that the check makes, which some files declare over two lines.
 MADE = re.compile(r"^(invariant|decreases)-")
-# Where the plain rule would say too little.
-CHOSEN = {"D-suc": "D_suc", "haar-load": "haar_load"}
+# A lemma on D: the definition keeps its capital.
+CHOSEN = {"D-suc": "D_suc"}
 
 
 def declared(path):

@@ -1,5 +1,6 @@
 // A feed in memory: bytes that are at hand, and a page that grows.
-ghost use Rattle.std.specs.Prelude.{◌≡◌, true, false, []};
+ghost use Rattle.std.specs.Prelude.{◌≡◌, true, false, [], ◌≢◌, Ok};
+ghost use Rattle.console.specs.Ends.{Flushes, Takes};
 
 use crate::ends::{Broken, Sink, Source};
 use std::alloc::Global;
@@ -63,7 +64,11 @@ impl Sink for Page {
 
     ghost stuck = { λ p. p.is_full ≡ true };
 
-    fn write(&mut self, bytes: &[u8]) -> Result<(), Broken> {
+    fn write(&mut self, bytes: &[u8]) -> Result<(), Broken>
+        ensures taken { Takes (λ w. w ≡ self.old.bytes.items) (λ w. w ≡ self.new.bytes.items) (self.new.is_full ≡ true) bytes.now result }
+        ensures whole { result ≡ Ok tt → self.new.is_full ≡ self.old.is_full }
+        ensures lost { result ≢ Ok tt → self.new.bytes.items ≡ self.old.bytes.items }
+    {
         match self.bytes.extend_from_slice(bytes) {
             Ok(()) => Ok(()),
             Err(_) => {
@@ -73,7 +78,14 @@ impl Sink for Page {
         }
     }
 
-    fn flush(&mut self) -> Result<(), Broken> {
+    // A page that lost bytes says so whenever it is asked.
+    fn flush(&mut self) -> Result<(), Broken>
+        ensures flushed { Flushes (λ w. w ≡ self.old.bytes.items) (λ w. w ≡ self.new.bytes.items) (self.new.is_full ≡ true) result }
+        ensures whole { self.old.is_full ≡ false → result ≡ Ok tt }
+        ensures lost { self.old.is_full ≡ true → result ≢ Ok tt }
+        ensures kept { self.new.bytes.items ≡ self.old.bytes.items }
+        ensures same { self.new.is_full ≡ self.old.is_full }
+    {
         if self.is_full { Err(Broken) } else { Ok(()) }
     }
 }

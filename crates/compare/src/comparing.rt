@@ -1,7 +1,7 @@
 // Two warehouses compared cell by cell.
 ghost use Rattle.std.specs.Prelude.{◌≡◌, ℕ, ◌<◌, Some, None, ◌≢◌};
 ghost use Rattle.haar.specs.Tiles.{cell_count};
-ghost use Rattle.warehouse.specs.View.{view};
+ghost use Rattle.warehouse.specs.View.{known};
 ghost use Rattle.agreement.specs.Agreement.{Agreement};
 ghost use Rattle.agreement.specs.Steps.{StepsHold};
 ghost use Rattle.compare.specs.Compared.{ShareBelow, Compared};
@@ -33,7 +33,7 @@ fn lowest_difference<K: Store, F: Store>(first: &K, second: &F, count: u32) -> O
 // as the definitions say; and what the contracts of the calls allow are the steps of such histories.
 pub fn compare<K: Store, F: Store>(kept: &Warehouse<K>, fresh: &Warehouse<F>) -> Comparison
     ensures compared { Compared (K.Store.means kept.now.store) (F.Store.means fresh.now.store) result }
-    ensures agreement { Agreement (view (K.Store.means kept.now.store) kept.now.asked) (view (F.Store.means fresh.now.store) fresh.now.asked) }
+    ensures agreement { Agreement (known K.Store.means kept.now) (known F.Store.means fresh.now) }
     ensures steps { StepsHold }
 {
     let bands = kept.store.bands();

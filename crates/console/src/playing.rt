@@ -1,6 +1,6 @@
 // The bytes of a feed, one command after another.
 ghost use Rattle.std.specs.Prelude.{◌≡◌, ◌+◌, ◌^◌, ◌<◌, ◌≤◌, true, false, length};
-ghost use Rattle.warehouse.specs.View.{view};
+ghost use Rattle.warehouse.specs.View.{known};
 ghost use Rattle.console.specs.Playing.{state, Nexts, Plays};
 
 use crate::ends::{Broken, Sink};
@@ -35,7 +35,7 @@ fn obey_next<S: Store, O: Sink>(
     sink: &mut O,
 ) -> (Loading, Result<Option<usize>, Broken>)
     requires { 0 < length bytes.now }
-    ensures { Nexts (state (view (S.Store.means warehouse.old.store) warehouse.old.asked) loading buffer.old) offset bytes.now (O.Sink.took sink.old) (O.Sink.took sink.new) (O.Sink.stuck sink.new) result.1 (state (view (S.Store.means warehouse.new.store) warehouse.new.asked) result.0 buffer.new) }
+    ensures { Nexts (state (known S.Store.means warehouse.old) loading buffer.old) offset bytes.now (O.Sink.took sink.old) (O.Sink.took sink.new) (O.Sink.stuck sink.new) result.1 (state (known S.Store.means warehouse.new) result.0 buffer.new) }
 {
     let (loading, outcome) = step(warehouse, loading, buffer, bytes, offset);
     match outcome {
@@ -55,7 +55,7 @@ pub(crate) fn play<S: Store, O: Sink>(
     sink: &mut O,
 ) -> (Loading, Result<Played, Broken>)
     requires { offset + length bytes.now < 2 ^ 64 }
-    ensures { Plays (state (view (S.Store.means warehouse.old.store) warehouse.old.asked) loading buffer.old) offset bytes.now last (O.Sink.took sink.old) (O.Sink.took sink.new) (O.Sink.stuck sink.new) result.1 (state (view (S.Store.means warehouse.new.store) warehouse.new.asked) result.0 buffer.new) }
+    ensures { Plays (state (known S.Store.means warehouse.old) loading buffer.old) offset bytes.now last (O.Sink.took sink.old) (O.Sink.took sink.new) (O.Sink.stuck sink.new) result.1 (state (known S.Store.means warehouse.new) result.0 buffer.new) }
 {
     let mut loading = loading;
     let mut at = 0;

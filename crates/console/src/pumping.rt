@@ -1,5 +1,5 @@
 // The pieces of a feed, from its source to its lines.
-ghost use Rattle.warehouse.specs.View.{view};
+ghost use Rattle.warehouse.specs.View.{known};
 ghost use Rattle.feed.specs.declared.state.Loading.TheVariants.{Idle};
 ghost use Rattle.console.specs.Playing.{state};
 ghost use Rattle.console.specs.Pumping.{Pumps};
@@ -20,7 +20,7 @@ pub(crate) fn pump<S: Store, I: Source, O: Sink>(
     source: &mut I,
     sink: &mut O,
 ) -> (Loading, Result<(), RunFault>)
-    ensures { Pumps (state (view (S.Store.means warehouse.old.store) warehouse.old.asked) Idle buffer.old) (I.Source.gives source.old) (I.Source.gives source.new) (I.Source.broken source.new) (O.Sink.took sink.old) (O.Sink.took sink.new) (O.Sink.stuck sink.new) result.1 (state (view (S.Store.means warehouse.new.store) warehouse.new.asked) result.0 buffer.new) }
+    ensures { Pumps (state (known S.Store.means warehouse.old) Idle buffer.old) (I.Source.gives source.old) (I.Source.gives source.new) (I.Source.broken source.new) (O.Sink.took sink.old) (O.Sink.took sink.new) (O.Sink.stuck sink.new) result.1 (state (known S.Store.means warehouse.new) result.0 buffer.new) }
 {
     let mut loading = Loading::Idle;
     let mut window = Window::new();

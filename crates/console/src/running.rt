@@ -1,5 +1,5 @@
 // A feed run to its end, and the law of its lines.
-ghost use Rattle.warehouse.specs.View.{view};
+ghost use Rattle.warehouse.specs.View.{known};
 ghost use Rattle.console.specs.Running.{Resumed, Ran};
 
 use crate::ends::{Sink, Source};
@@ -19,7 +19,7 @@ pub fn resume<S: Store, I: Source, O: Sink>(
     source: &mut I,
     sink: &mut O,
 ) -> Result<(), RunFault>
-    ensures { Resumed (view (S.Store.means warehouse.old.store) warehouse.old.asked) buffer.old (I.Source.gives source.old) (I.Source.gives source.new) (I.Source.broken source.new) (O.Sink.took sink.old) (O.Sink.took sink.new) (O.Sink.stuck sink.new) result (view (S.Store.means warehouse.new.store) warehouse.new.asked) }
+    ensures { Resumed (known S.Store.means warehouse.old) buffer.old (I.Source.gives source.old) (I.Source.gives source.new) (I.Source.broken source.new) (O.Sink.took sink.old) (O.Sink.took sink.new) (O.Sink.stuck sink.new) result (known S.Store.means warehouse.new) }
 {
     let (loading, pumped) = pump(warehouse, buffer, source, sink);
     let line = end(loading);

@@ -1,6 +1,6 @@
 // One command of the feed: decoded, obeyed, answered.
 ghost use Rattle.std.specs.Prelude.{◌≡◌};
-ghost use Rattle.warehouse.specs.View.{view};
+ghost use Rattle.warehouse.specs.View.{known};
 ghost use Rattle.feed.specs.Step.{printed, after, Obeys, Steps, ending};
 
 use crate::fault::{Cause, FeedFault};
@@ -32,7 +32,7 @@ fn obey<S: Store>(
     command: Command,
     offset: u64,
 ) -> (Loading, Result<Option<Line>, FeedFault>)
-    ensures { Obeys (view (S.means warehouse.old.store) warehouse.old.asked) loading buffer.old command offset result.0 result.1 buffer.new (view (S.means warehouse.new.store) warehouse.new.asked) }
+    ensures { Obeys (known S.means warehouse.old) loading buffer.old command offset result.0 result.1 buffer.new (known S.means warehouse.new) }
 {
     match command {
         Command::Begin { level, index } => begin_load(warehouse, loading, level, index, offset),
@@ -69,7 +69,7 @@ pub fn step<S: Store>(
     bytes: &[u8],
     offset: u64,
 ) -> (Loading, Outcome)
-    ensures { Steps (view (S.means warehouse.old.store) warehouse.old.asked) loading buffer.old bytes.now offset result.0 result.1 buffer.new (view (S.means warehouse.new.store) warehouse.new.asked) }
+    ensures { Steps (known S.means warehouse.old) loading buffer.old bytes.now offset result.0 result.1 buffer.new (known S.means warehouse.new) }
 {
     let decoded = decode(bytes);
     let Ok((command, rest)) = decoded else {

@@ -1,6 +1,6 @@
 // From one command to its line.
 ghost use Rattle.std.specs.Prelude.{◌≡◌, Err};
-ghost use Rattle.warehouse.specs.View.{view};
+ghost use Rattle.warehouse.specs.View.{known};
 ghost use Rattle.warehouse.specs.Ask.{point_answer, sum_answer, mean_answer};
 ghost use Rattle.feed.specs.Step.{told, point_line, sum_line, mean_line, Adds, Raises, Begun, Filled, Finished, GivenUp, out_of_sequence, refused};
 ghost use Rattle.feed.specs.declared.state.Loading.TheVariants.{Open};
@@ -22,14 +22,14 @@ pub(crate) fn add<S: Store>(
     value: i32,
     offset: u64,
 ) -> Result<Line, FeedFault>
-    ensures { Adds (view (S.means warehouse.old.store) warehouse.old.asked) minute value offset result (view (S.means warehouse.new.store) warehouse.new.asked) }
+    ensures { Adds (known S.means warehouse.old) minute value offset result (known S.means warehouse.new) }
 {
     let cells = placed(add_point(warehouse, minute, i64::from(value)), offset)?;
     Ok(Line::Added { cells })
 }
 
 pub(crate) fn raise<S: Store>(warehouse: &mut Warehouse<S>, offset: u64) -> Result<Line, FeedFault>
-    ensures { Raises (view (S.means warehouse.old.store) warehouse.old.asked) offset result (view (S.means warehouse.new.store) warehouse.new.asked) }
+    ensures { Raises (known S.means warehouse.old) offset result (known S.means warehouse.new) }
 {
     let size = placed(grow(warehouse), offset)?;
     Ok(Line::Grown { size })
@@ -40,7 +40,7 @@ pub(crate) fn ask_point<S: Store>(
     minute: u32,
     offset: u64,
 ) -> Result<Line, FeedFault>
-    ensures { result ≡ told point_line offset (point_answer (view (S.means warehouse.now.store) warehouse.now.asked) minute) }
+    ensures { result ≡ told point_line offset (point_answer (known S.means warehouse.now) minute) }
 {
     let reading = placed(warehouse.point(minute), offset)?;
     Ok(Line::Point {
@@ -55,7 +55,7 @@ pub(crate) fn ask_sum<S: Store>(
     to: u32,
     offset: u64,
 ) -> Result<Line, FeedFault>
-    ensures { result ≡ told sum_line offset (sum_answer (view (S.means warehouse.now.store) warehouse.now.asked) from to) }
+    ensures { result ≡ told sum_line offset (sum_answer (known S.means warehouse.now) from to) }
 {
     let reading = placed(warehouse.sum(from, to), offset)?;
     Ok(Line::Sum {
@@ -70,7 +70,7 @@ pub(crate) fn ask_mean<S: Store>(
     to: u32,
     offset: u64,
 ) -> Result<Line, FeedFault>
-    ensures { result ≡ told mean_line offset (mean_answer (view (S.means warehouse.now.store) warehouse.now.asked) from to) }
+    ensures { result ≡ told mean_line offset (mean_answer (known S.means warehouse.now) from to) }
 {
     let reading = placed(warehouse.mean(from, to), offset)?;
     Ok(Line::Mean {
@@ -95,7 +95,7 @@ pub(crate) fn begin_load<S: Store>(
     index: u32,
     offset: u64,
 ) -> (Loading, Result<Option<Line>, FeedFault>)
-    ensures { Begun (view (S.means warehouse.now.store) warehouse.now.asked).size loading level index offset result.0 result.1 }
+    ensures { Begun (known S.means warehouse.now).size loading level index offset result.0 result.1 }
 {
     match loading {
         Loading::Open(load) => (Loading::Open(load), Err(out_of_sequence(offset))),
@@ -139,7 +139,7 @@ pub(crate) fn finish_load<S: Store>(
     offset: u64,
 ) -> (Loading, Result<Option<Line>, FeedFault>)
     ensures restored { buffer.new ≡ buffer.old }
-    ensures finished { Finished (view (S.means warehouse.old.store) warehouse.old.asked) loading buffer.old offset result.0 result.1 (view (S.means warehouse.new.store) warehouse.new.asked) }
+    ensures finished { Finished (known S.means warehouse.old) loading buffer.old offset result.0 result.1 (known S.means warehouse.new) }
 {
     match loading {
         Loading::Idle => (Loading::Idle, Err(out_of_sequence(offset))),

@@ -2,7 +2,7 @@
 ghost use Rattle.std.specs.Prelude.{◌≡◌, ℕ, suc, ◌-◌, ◌*◌, ◌^◌, ◌<◌, ◌≤◌, true, false, ℤ, pos, ◌≤ℤ◌};
 ghost use Rattle.haar.specs.Tiles.{cell_count};
 ghost use Rattle.store.specs.Meaning.{Bars, Put};
-ghost use Rattle.warehouse.specs.View.{view};
+ghost use Rattle.warehouse.specs.View.{known};
 ghost use Rattle.loads.specs.Loads.{Small};
 ghost use Rattle.loads.specs.Growing.{Places, newly, Topped, Grows, Growth};
 
@@ -102,7 +102,7 @@ fn is_small(number: i64) -> bool
 
 // The checks of a growth in their order, and its writing.
 fn raise<S: Store>(warehouse: &mut Warehouse<S>) -> Result<u8, Fault>
-    ensures { Grows (view (S.means warehouse.old.store) warehouse.old.asked) result (view (S.means warehouse.new.store) warehouse.new.asked) }
+    ensures { Grows (known S.means warehouse.old) result (known S.means warehouse.new) }
 {
     let size = warehouse.size();
     let bands = warehouse.store.bands();
@@ -127,7 +127,7 @@ fn raise<S: Store>(warehouse: &mut Warehouse<S>) -> Result<u8, Fault>
 
 // One level more: the size after it, or why the size is kept.
 pub fn grow<S: Store>(warehouse: &mut Warehouse<S>) -> Result<u8, Refusal>
-    ensures { Growth (view (S.means warehouse.old.store) warehouse.old.asked) result (view (S.means warehouse.new.store) warehouse.new.asked) }
+    ensures { Growth (known S.means warehouse.old) result (known S.means warehouse.new) }
 {
     let size = warehouse.size();
     let grown = asking(raise(warehouse), Asked::Size(size))?;

@@ -1,6 +1,6 @@
 // Beginning, filling, finishing and giving up a load.
 ghost use Rattle.std.specs.Prelude.{◌≡◌, ℕ, ◌^◌, ◌≤◌};
-ghost use Rattle.warehouse.specs.View.{view};
+ghost use Rattle.warehouse.specs.View.{known};
 ghost use Rattle.loads.specs.Opening.{Returned, Begins, Takes, Finished, Finishes};
 
 use crate::open::{OpenLoad, RefusedLoad};
@@ -28,7 +28,7 @@ fn finished<S: Store>(
 ) -> Result<u32, Fault>
     requires { level ≤ 12 }
     ensures restored { buffer.new ≡ buffer.old }
-    ensures finished { Finished (view (S.means warehouse.old.store) warehouse.old.asked) level index taken buffer.old result (view (S.means warehouse.new.store) warehouse.new.asked) }
+    ensures finished { Finished (known S.means warehouse.old) level index taken buffer.old result (known S.means warehouse.new) }
 {
     let many = chunk_len(level);
     if (taken as usize) < many {
@@ -42,7 +42,7 @@ fn finished<S: Store>(
 
 // A load of 2^level minutes, beside the warehouse.
 pub fn begin<S: Store>(warehouse: &Warehouse<S>, level: u8, index: u32) -> Result<OpenLoad, Refusal>
-    ensures { Begins (view (S.means warehouse.now.store) warehouse.now.asked).size level index result }
+    ensures { Begins (known S.means warehouse.now).size level index result }
 {
     let asked = Asked::Interval(level, index);
     if level > 12 {
@@ -96,7 +96,7 @@ impl OpenLoad {
         buffer: &mut [i64],
     ) -> Result<u32, RefusedLoad>
         ensures restored { buffer.new ≡ buffer.old }
-        ensures finishes { Finishes self (view (S.means warehouse.old.store) warehouse.old.asked) buffer.old result (view (S.means warehouse.new.store) warehouse.new.asked) }
+        ensures finishes { Finishes self (known S.means warehouse.old) buffer.old result (known S.means warehouse.new) }
     {
         match finished(warehouse, self.level, self.index, self.taken, buffer) {
             Ok(written) => {

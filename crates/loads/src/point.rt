@@ -1,5 +1,5 @@
 // Adding to one minute.
-ghost use Rattle.warehouse.specs.View.{view};
+ghost use Rattle.warehouse.specs.View.{known};
 ghost use Rattle.loads.specs.Addition.{AddsPoint};
 
 use crate::values::add_values;
@@ -14,7 +14,7 @@ pub fn add_point<S: Store>(
     minute: u32,
     value: i64,
 ) -> Result<u32, Refusal>
-    ensures { AddsPoint (view (S.means warehouse.old.store) warehouse.old.asked) minute value result (view (S.means warehouse.new.store) warehouse.new.asked) }
+    ensures { AddsPoint (known S.means warehouse.old) minute value result (known S.means warehouse.new) }
 {
     let mut values = [value];
     let written = asking(

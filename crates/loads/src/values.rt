@@ -1,6 +1,6 @@
 // Adding a chunk's values: the checks in their order, and the writing.
 ghost use Rattle.std.specs.Prelude.{◌≡◌, ℕ, ◌-◌, ◌*◌, ◌^◌, ◌<◌, ◌≤◌, true, false, length, pos, Some, None, slice_index_or};
-ghost use Rattle.warehouse.specs.View.{view};
+ghost use Rattle.warehouse.specs.View.{known};
 ghost use Rattle.loads.specs.Addition.{Lies, Limit, Limited, Additions};
 
 use crate::chunk::add_chunk;
@@ -48,7 +48,7 @@ pub(crate) fn add_values<S: Store>(
     requires short { level ≤ 12 }
     requires many { length values.old ≡ 2 ^ level }
     ensures restored { values.new ≡ values.old }
-    ensures adds { Additions (view (S.means warehouse.old.store) warehouse.old.asked) level index values.old result (view (S.means warehouse.new.store) warehouse.new.asked) }
+    ensures adds { Additions (known S.means warehouse.old) level index values.old result (known S.means warehouse.new) }
 {
     let size = warehouse.size();
     if !lies(size, level, index) {

@@ -1,7 +1,7 @@
 // Questions of a warehouse. None of them changes it.
 ghost use Rattle.std.specs.Prelude.{◌≡◌};
 ghost use Rattle.warehouse.specs.Ask.{point_reading, sum_reading, mean_reading, point_answer, sum_answer, mean_answer};
-ghost use Rattle.warehouse.specs.View.{view};
+ghost use Rattle.warehouse.specs.View.{known};
 
 use crate::fault::{Asked, Fault, Refusal};
 use crate::numbers::asking;
@@ -14,27 +14,27 @@ use store::interface::Store;
 impl<S: Store> Warehouse<S> {
     // The value of one minute.
     pub fn point(&self, minute: u32) -> Result<Reading, Refusal>
-        ensures { result ≡ point_answer (view (S.means self.now.store) self.now.asked) minute }
+        ensures { result ≡ point_answer (known S.means self.now) minute }
     {
         Ok(asking(self.point_reading(minute), Asked::Minute(minute))?)
     }
 
     // The sum of the minutes from `from` to `to - 1`.
     pub fn sum(&self, from: u32, to: u32) -> Result<Reading, Refusal>
-        ensures { result ≡ sum_answer (view (S.means self.now.store) self.now.asked) from to }
+        ensures { result ≡ sum_answer (known S.means self.now) from to }
     {
         Ok(asking(self.sum_reading(from, to), Asked::Minutes(from, to))?)
     }
 
     // The mean of the minutes from `from` to `to - 1`, rounded toward minus infinity.
     pub fn mean(&self, from: u32, to: u32) -> Result<Reading, Refusal>
-        ensures { result ≡ mean_answer (view (S.means self.now.store) self.now.asked) from to }
+        ensures { result ≡ mean_answer (known S.means self.now) from to }
     {
         Ok(asking(self.mean_reading(from, to), Asked::Minutes(from, to))?)
     }
 
     fn point_reading(&self, minute: u32) -> Result<Reading, Fault>
-        ensures { result ≡ point_reading (view (S.means self.now.store) self.now.asked) minute }
+        ensures { result ≡ point_reading (known S.means self.now) minute }
     {
         let size = self.size();
         if minute >= 1 << size {
@@ -44,7 +44,7 @@ impl<S: Store> Warehouse<S> {
     }
 
     fn sum_reading(&self, from: u32, to: u32) -> Result<Reading, Fault>
-        ensures { result ≡ sum_reading (view (S.means self.now.store) self.now.asked) from to }
+        ensures { result ≡ sum_reading (known S.means self.now) from to }
     {
         if from > to {
             return Err(Fault::Range);
@@ -57,7 +57,7 @@ impl<S: Store> Warehouse<S> {
     }
 
     fn mean_reading(&self, from: u32, to: u32) -> Result<Reading, Fault>
-        ensures { result ≡ mean_reading (view (S.means self.now.store) self.now.asked) from to }
+        ensures { result ≡ mean_reading (known S.means self.now) from to }
     {
         if from >= to {
             return Err(Fault::Range);

@@ -3,7 +3,7 @@ ghost use Rattle.std.specs.Prelude.{◌≡◌, ℕ, ◌-◌, ◌^◌, ◌<◌, �
 ghost use Rattle.haar.specs.Places.{InTree};
 ghost use Rattle.haar.specs.Trend.{amount, trend_of};
 ghost use Rattle.warehouse.specs.Grading.{inside, graded, graded_in, graded_at, trend_reading, trend_answer};
-ghost use Rattle.warehouse.specs.View.{view};
+ghost use Rattle.warehouse.specs.View.{known};
 
 use crate::fault::{Asked, Fault, Refusal};
 use crate::numbers::asking;
@@ -80,7 +80,7 @@ fn lies(size: u8, level: u8, index: u32) -> bool
 impl<S: Store> Warehouse<S> {
     // How the halves of the interval (level, index) compare.
     pub fn trend(&self, level: u8, index: u32) -> Result<Trend, Refusal>
-        ensures { result ≡ trend_answer (view (S.means self.now.store) self.now.asked) level index }
+        ensures { result ≡ trend_answer (known S.means self.now) level index }
     {
         Ok(asking(
             self.trend_reading(level, index),
@@ -89,7 +89,7 @@ impl<S: Store> Warehouse<S> {
     }
 
     fn trend_reading(&self, level: u8, index: u32) -> Result<Trend, Fault>
-        ensures { result ≡ trend_reading (view (S.means self.now.store) self.now.asked) level index }
+        ensures { result ≡ trend_reading (known S.means self.now) level index }
     {
         if level == 0 || level > 20 {
             return Err(Fault::Interval);

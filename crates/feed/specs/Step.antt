@@ -1,8 +1,11 @@
 -- What a command does to the warehouse, the open load and the buffer, and what it prints.
 --   Reply             a line, or no line, or a refusal with its offset
+--   Outcome           the feed goes on past a command, or ends with its last line
 --   Obeys             one command, already decoded
 --   Steps             one command, from the bytes that begin with it
 use Rattle.std.specs.Prelude.{◌≡◌, ℕ, ◌-◌, List, length, ℤ, Some, None, Ok, Err, Option, Result}
+use Rattle.std.specs.declared.ops.ControlFlow.{ControlFlow}
+use Rattle.std.specs.declared.ops.ControlFlow.TheVariants.{Continue, Break}
 use Rattle.warehouse.specs.declared.fault.Refusal.{Refusal}
 use Rattle.warehouse.specs.declared.reading.Reading.{Reading}
 use Rattle.warehouse.specs.Ask.{point_answer, sum_answer, mean_answer}
@@ -20,15 +23,19 @@ use Rattle.feed.specs.declared.fault.Cause.TheVariants.{Decode, Sequence, Wareho
 use Rattle.feed.specs.declared.fault.FeedFault.{FeedFault}
 use Rattle.wire.specs.declared.line.Line.{Line}
 use Rattle.wire.specs.declared.line.Line.TheVariants as line
-use Rattle.feed.specs.declared.state.Loading.{Loading}
-use Rattle.feed.specs.declared.state.Loading.TheVariants.{Idle, Open}
-use Rattle.feed.specs.declared.outcome.Outcome.{Outcome}
-use Rattle.feed.specs.declared.outcome.Outcome.TheVariants.{On, End}
+use Rattle.feed.specs.declared.obeyed.Obeyed.{Obeyed}
 use Rattle.wire.specs.Decode.{decoded}
 use Rattle.feed.specs.Faults.{fault_line}
 
 abbrev pub Reply : Type 0
 Reply = Result (Option Line) FeedFault
+
+abbrev pub Outcome : Type 0
+Outcome = ControlFlow Line Obeyed
+
+-- the feed goes on: the line of a command, if it prints one, and how many bytes it has
+abbrev pub on : Option Line → ℕ → Outcome
+on l w = Continue (record { line = l; width = w })
 
 abbrev pub refused : Refusal → ℕ → FeedFault
 refused e o = record { cause = Warehouse e; offset = o }
@@ -64,17 +71,17 @@ abbrev pub Raises : View → ℕ → Result Line FeedFault → View → Type 0
 Raises v o r v' = (q : Result ℕ Refusal) × Growth v q v' × (r ≡ told line.Grown o q)
 
 -- the load after each of its calls
-abbrev pub begun : Result OpenLoad Refusal → Loading
-begun (Ok l) = Open l
-begun (Err e) = Idle
+abbrev pub begun : Result OpenLoad Refusal → Option OpenLoad
+begun (Ok l) = Some l
+begun (Err e) = None
 
-abbrev pub filled : Result OpenLoad RefusedLoad → Loading
-filled (Ok l) = Open l
-filled (Err e) = Open e.load
+abbrev pub filled : Result OpenLoad RefusedLoad → Option OpenLoad
+filled (Ok l) = Some l
+filled (Err e) = Some e.load
 
-abbrev pub finished : Result ℕ RefusedLoad → Loading
-finished (Ok w) = Idle
-finished (Err e) = Open e.load
+abbrev pub finished : Result ℕ RefusedLoad → Option OpenLoad
+finished (Ok w) = None
+finished (Err e) = Some e.load
 
 -- what each of its calls prints
 abbrev pub silent : ℕ → Result OpenLoad RefusedLoad → Reply
@@ -85,24 +92,24 @@ abbrev pub counted : ℕ → Result ℕ RefusedLoad → Reply
 counted o (Ok w) = Ok (Some (line.Finished w))
 counted o (Err e) = Err (refused e.refusal o)
 
-abbrev pub Begun : ℕ → Loading → ℕ → ℕ → ℕ → Loading → Reply → Type 0
-Begun n (Open l) m p o l' r = (l' ≡ Open l) × (r ≡ Err (out_of_sequence o))
-Begun n Idle m p o l' r = (q : Result OpenLoad Refusal) × Begins n m p q × (l' ≡ begun q) × (r ≡ printed (told (λ _. line.Begun) o q))
+abbrev pub Begun : ℕ → Option OpenLoad → ℕ → ℕ → ℕ → Option OpenLoad → Reply → Type 0
+Begun n (Some l) m p o l' r = (l' ≡ Some l) × (r ≡ Err (out_of_sequence o))
+Begun n None m p o l' r = (q : Result OpenLoad Refusal) × Begins n m p q × (l' ≡ begun q) × (r ≡ printed (told (λ _. line.Begun) o q))
 
-abbrev pub Filled : Loading → List ℤ → ℤ → ℕ → Loading → Reply → List ℤ → Type 0
-Filled Idle zs x o l' r zs' = (l' ≡ Idle) × (r ≡ Err (out_of_sequence o)) × (zs' ≡ zs)
-Filled (Open l) zs x o l' r zs' = (q : Result OpenLoad RefusedLoad) × Takes l x zs q zs' × (l' ≡ filled q) × (r ≡ silent o q)
+abbrev pub Filled : Option OpenLoad → List ℤ → ℤ → ℕ → Option OpenLoad → Reply → List ℤ → Type 0
+Filled None zs x o l' r zs' = (l' ≡ None) × (r ≡ Err (out_of_sequence o)) × (zs' ≡ zs)
+Filled (Some l) zs x o l' r zs' = (q : Result OpenLoad RefusedLoad) × Takes l x zs q zs' × (l' ≡ filled q) × (r ≡ silent o q)
 
-abbrev pub Finished : View → Loading → List ℤ → ℕ → Loading → Reply → View → Type 0
-Finished v Idle zs o l' r v' = (l' ≡ Idle) × (r ≡ Err (out_of_sequence o)) × (v' ≡ v)
-Finished v (Open l) zs o l' r v' = (q : Result ℕ RefusedLoad) × Finishes l v zs q v' × (l' ≡ finished q) × (r ≡ counted o q)
+abbrev pub Finished : View → Option OpenLoad → List ℤ → ℕ → Option OpenLoad → Reply → View → Type 0
+Finished v None zs o l' r v' = (l' ≡ None) × (r ≡ Err (out_of_sequence o)) × (v' ≡ v)
+Finished v (Some l) zs o l' r v' = (q : Result ℕ RefusedLoad) × Finishes l v zs q v' × (l' ≡ finished q) × (r ≡ counted o q)
 
-abbrev pub GivenUp : Loading → ℕ → Loading → Reply → Type 0
-GivenUp Idle o l' r = (l' ≡ Idle) × (r ≡ Err (out_of_sequence o))
-GivenUp (Open l) o l' r = (l' ≡ Idle) × (r ≡ Ok (Some (line.GivenUp l.taken)))
+abbrev pub GivenUp : Option OpenLoad → ℕ → Option OpenLoad → Reply → Type 0
+GivenUp None o l' r = (l' ≡ None) × (r ≡ Err (out_of_sequence o))
+GivenUp (Some l) o l' r = (l' ≡ None) × (r ≡ Ok (Some (line.GivenUp l.taken)))
 
 -- one command: the load, the reply, the buffer and the view after it
-abbrev pub Obeys : View → Loading → List ℤ → Command → ℕ → Loading → Reply → List ℤ → View → Type 0
+abbrev pub Obeys : View → Option OpenLoad → List ℤ → Command → ℕ → Option OpenLoad → Reply → List ℤ → View → Type 0
 Obeys v l zs (Begin m p) o l' r zs' v' = Begun v.size l m p o l' r × (zs' ≡ zs) × (v' ≡ v)
 Obeys v l zs (Value x) o l' r zs' v' = Filled l zs x o l' r zs' × (v' ≡ v)
 Obeys v l zs Finish o l' r zs' v' = Finished v l zs o l' r v' × (zs' ≡ zs)
@@ -115,23 +122,23 @@ Obeys v l zs Grow o l' r zs' v' = ((q : Result Line FeedFault) × Raises v o q v
 
 -- a byte that is no command, and missing operands, end the feed
 abbrev pub after_fault : FeedFault → Cause → ℕ → Outcome
-after_fault f (Decode d) w = End (fault_line f)
-after_fault f Sequence w = On (Some (fault_line f)) w
-after_fault f (Warehouse e) w = On (Some (fault_line f)) w
+after_fault f (Decode d) w = Break (fault_line f)
+after_fault f Sequence w = on (Some (fault_line f)) w
+after_fault f (Warehouse e) w = on (Some (fault_line f)) w
 
 abbrev pub after : Reply → ℕ → Outcome
-after (Ok l) w = On l w
+after (Ok l) w = on l w
 after (Err f) w = after_fault f f.cause w
 
-abbrev pub StepsBy : Result (Command × List ℕ) DecodeFault → View → Loading → List ℤ → List ℕ → ℕ → Loading → Outcome → List ℤ → View → Type 0
-StepsBy (Err f) v l zs bs o l' out zs' v' = (out ≡ End (fault_line (record { cause = Decode f; offset = o }))) × (l' ≡ l) × (zs' ≡ zs) × (v' ≡ v)
+abbrev pub StepsBy : Result (Command × List ℕ) DecodeFault → View → Option OpenLoad → List ℤ → List ℕ → ℕ → Option OpenLoad → Outcome → List ℤ → View → Type 0
+StepsBy (Err f) v l zs bs o l' out zs' v' = (out ≡ Break (fault_line (record { cause = Decode f; offset = o }))) × (l' ≡ l) × (zs' ≡ zs) × (v' ≡ v)
 StepsBy (Ok (c, rest)) v l zs bs o l' out zs' v' = (r : Reply) × Obeys v l zs c o l' r zs' v' × (out ≡ after r (length bs - length rest))
 
 -- one command, from the bytes bs that begin with it, at offset o
-abbrev pub Steps : View → Loading → List ℤ → List ℕ → ℕ → Loading → Outcome → List ℤ → View → Type 0
+abbrev pub Steps : View → Option OpenLoad → List ℤ → List ℕ → ℕ → Option OpenLoad → Outcome → List ℤ → View → Type 0
 Steps v l zs bs o l' out zs' v' = StepsBy (decoded bs) v l zs bs o l' out zs' v'
 
 -- a load that is open at the end of the feed is given up, and its line printed
-abbrev pub ending : Loading → Option Line
-ending Idle = None
-ending (Open l) = Some (line.GivenUp l.taken)
+abbrev pub ending : Option OpenLoad → Option Line
+ending None = None
+ending (Some l) = Some (line.GivenUp l.taken)

@@ -3,7 +3,6 @@
 
 pub mod fault;
 pub mod numbers;
-pub mod outcome;
+pub mod obeyed;
 pub mod run;
-pub mod state;
 mod step;

@@ -4,11 +4,12 @@ ghost use Rattle.warehouse.specs.View.{known};
 ghost use Rattle.feed.specs.Step.{printed, after, Obeys, Steps, ending};
 
 use crate::fault::{Cause, FeedFault};
-use crate::outcome::Outcome;
-use crate::state::Loading;
+use crate::obeyed::Obeyed;
 use crate::step::{
     add, ask_mean, ask_point, ask_sum, begin_load, finish_load, give_up_load, raise, take_value,
 };
+use loads::open::OpenLoad;
+use std::ops::ControlFlow;
 use store::interface::Store;
 use warehouse::record::Warehouse;
 use wire::command::Command;
@@ -27,11 +28,11 @@ fn printed(answer: Result<Line, FeedFault>) -> Result<Option<Line>, FeedFault>
 
 fn obey<S: Store>(
     warehouse: &mut Warehouse<S>,
-    loading: Loading,
+    loading: Option<OpenLoad>,
     buffer: &mut [i64],
     command: Command,
     offset: u64,
-) -> (Loading, Result<Option<Line>, FeedFault>)
+) -> (Option<OpenLoad>, Result<Option<Line>, FeedFault>)
     ensures { Obeys (known S.means warehouse.old) loading buffer.old command offset result.0 result.1 buffer.new (known S.means warehouse.new) }
 {
     match command {
@@ -48,49 +49,43 @@ fn obey<S: Store>(
 }
 
 // What a reply leads to: an unknown byte and missing operands end the feed.
-fn after(reply: Result<Option<Line>, FeedFault>, width: usize) -> Outcome
+fn after(reply: Result<Option<Line>, FeedFault>, width: usize) -> ControlFlow<Line, Obeyed>
     ensures { result ≡ after reply width }
 {
-    match reply {
-        Ok(line) => Outcome::On(line, width),
+    let line = match reply {
+        Ok(line) => line,
         Err(fault) => match fault.cause {
-            Cause::Decode(_) => Outcome::End(fault.line()),
-            Cause::Sequence => Outcome::On(Some(fault.line()), width),
-            Cause::Warehouse(_) => Outcome::On(Some(fault.line()), width),
+            Cause::Decode(_) => return ControlFlow::Break(fault.line()),
+            Cause::Sequence | Cause::Warehouse(_) => Some(fault.line()),
         },
-    }
+    };
+    ControlFlow::Continue(Obeyed { line, width })
 }
 
 // The command at the front of the bytes, which stands at this offset of the feed.
 pub fn step<S: Store>(
     warehouse: &mut Warehouse<S>,
-    loading: Loading,
+    loading: Option<OpenLoad>,
     buffer: &mut [i64],
     bytes: &[u8],
     offset: u64,
-) -> (Loading, Outcome)
+) -> (Option<OpenLoad>, ControlFlow<Line, Obeyed>)
     ensures { Steps (known S.means warehouse.old) loading buffer.old bytes.now offset result.0 result.1 buffer.new (known S.means warehouse.new) }
 {
     let decoded = decode(bytes);
     let Ok((command, rest)) = decoded else {
-        let Err(fault) = decoded else { unreachable() };
-        return (
-            loading,
-            Outcome::End(FeedFault::from((fault, offset)).line()),
-        );
+        let fault = FeedFault::from((decoded.unwrap_err(), offset));
+        return (loading, ControlFlow::Break(fault.line()));
     };
     let (loading, reply) = obey(warehouse, loading, buffer, command, offset);
     (loading, after(reply, bytes.len() - rest.len()))
 }
 
 // A load that is open at the end of the feed is given up, and its line printed.
-pub fn end(loading: Loading) -> Option<Line>
+pub fn end(loading: Option<OpenLoad>) -> Option<Line>
     ensures { result ≡ ending loading }
 {
-    match loading {
-        Loading::Idle => None,
-        Loading::Open(load) => Some(Line::GivenUp {
-            values: load.give_up(),
-        }),
-    }
+    loading.map(|load| Line::GivenUp {
+        values: load.give_up(),
+    })
 }

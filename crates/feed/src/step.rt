@@ -1,16 +1,14 @@
 // From one command to its line.
-ghost use Rattle.std.specs.Prelude.{◌≡◌, Err};
+ghost use Rattle.std.specs.Prelude.{◌≡◌, Some, Err};
 ghost use Rattle.warehouse.specs.View.{known};
 ghost use Rattle.warehouse.specs.Ask.{point_answer, sum_answer, mean_answer};
 ghost use Rattle.feed.specs.Step.{told, point_line, sum_line, mean_line, Adds, Raises, Begun, Filled, Finished, GivenUp, out_of_sequence, refused};
-ghost use Rattle.feed.specs.declared.state.Loading.TheVariants.{Open};
 
 use crate::fault::{Cause, FeedFault};
 use crate::numbers::placed;
-use crate::state::Loading;
 use loads::growth::grow;
 use loads::loading::begin;
-use loads::open::RefusedLoad;
+use loads::open::{OpenLoad, RefusedLoad};
 use loads::point::add_point;
 use store::interface::Store;
 use warehouse::record::Warehouse;
@@ -90,79 +88,78 @@ fn out_of_sequence(offset: u64) -> FeedFault
 
 pub(crate) fn begin_load<S: Store>(
     warehouse: &Warehouse<S>,
-    loading: Loading,
+    loading: Option<OpenLoad>,
     level: u8,
     index: u32,
     offset: u64,
-) -> (Loading, Result<Option<Line>, FeedFault>)
+) -> (Option<OpenLoad>, Result<Option<Line>, FeedFault>)
     ensures { Begun (known S.means warehouse.now).size loading level index offset result.0 result.1 }
 {
     match loading {
-        Loading::Open(load) => (Loading::Open(load), Err(out_of_sequence(offset))),
-        Loading::Idle => match begin(warehouse, level, index) {
-            Ok(load) => (Loading::Open(load), Ok(Some(Line::Begun))),
-            Err(refusal) => (Loading::Idle, Err(FeedFault::from((refusal, offset)))),
+        Some(load) => (Some(load), Err(out_of_sequence(offset))),
+        None => match begin(warehouse, level, index) {
+            Ok(load) => (Some(load), Ok(Some(Line::Begun))),
+            Err(refusal) => (None, Err(FeedFault::from((refusal, offset)))),
         },
     }
 }
 
 // A refused call hands its load back.
-fn handed_back(back: RefusedLoad, offset: u64) -> (Loading, Result<Option<Line>, FeedFault>)
-    ensures load { result.0 ≡ Open back.load }
+fn handed_back(
+    back: RefusedLoad,
+    offset: u64,
+) -> (Option<OpenLoad>, Result<Option<Line>, FeedFault>)
+    ensures load { result.0 ≡ Some back.load }
     ensures refusal { result.1 ≡ Err (refused back.refusal offset) }
 {
     let RefusedLoad { load, refusal } = back;
-    (Loading::Open(load), Err(FeedFault::from((refusal, offset))))
+    (Some(load), Err(FeedFault::from((refusal, offset))))
 }
 
 pub(crate) fn take_value(
-    loading: Loading,
+    loading: Option<OpenLoad>,
     buffer: &mut [i64],
     value: i32,
     offset: u64,
-) -> (Loading, Result<Option<Line>, FeedFault>)
+) -> (Option<OpenLoad>, Result<Option<Line>, FeedFault>)
     ensures { Filled loading buffer.old value offset result.0 result.1 buffer.new }
 {
-    match loading {
-        Loading::Idle => (Loading::Idle, Err(out_of_sequence(offset))),
-        Loading::Open(load) => match load.value(buffer, i64::from(value)) {
-            Ok(load) => (Loading::Open(load), Ok(None)),
-            Err(back) => handed_back(back, offset),
-        },
+    let Some(load) = loading else {
+        return (loading, Err(out_of_sequence(offset)));
+    };
+    match load.value(buffer, i64::from(value)) {
+        Ok(load) => (Some(load), Ok(None)),
+        Err(back) => handed_back(back, offset),
     }
 }
 
 pub(crate) fn finish_load<S: Store>(
     warehouse: &mut Warehouse<S>,
-    loading: Loading,
+    loading: Option<OpenLoad>,
     buffer: &mut [i64],
     offset: u64,
-) -> (Loading, Result<Option<Line>, FeedFault>)
+) -> (Option<OpenLoad>, Result<Option<Line>, FeedFault>)
     ensures restored { buffer.new ≡ buffer.old }
     ensures finished { Finished (known S.means warehouse.old) loading buffer.old offset result.0 result.1 (known S.means warehouse.new) }
 {
-    match loading {
-        Loading::Idle => (Loading::Idle, Err(out_of_sequence(offset))),
-        Loading::Open(load) => match load.finish(warehouse, buffer) {
-            Ok(cells) => (Loading::Idle, Ok(Some(Line::Finished { cells }))),
-            Err(back) => handed_back(back, offset),
-        },
+    let Some(load) = loading else {
+        return (loading, Err(out_of_sequence(offset)));
+    };
+    match load.finish(warehouse, buffer) {
+        Ok(cells) => (None, Ok(Some(Line::Finished { cells }))),
+        Err(back) => handed_back(back, offset),
     }
 }
 
 pub(crate) fn give_up_load(
-    loading: Loading,
+    loading: Option<OpenLoad>,
     offset: u64,
-) -> (Loading, Result<Option<Line>, FeedFault>)
+) -> (Option<OpenLoad>, Result<Option<Line>, FeedFault>)
     ensures { GivenUp loading offset result.0 result.1 }
 {
-    match loading {
-        Loading::Idle => (Loading::Idle, Err(out_of_sequence(offset))),
-        Loading::Open(load) => (
-            Loading::Idle,
-            Ok(Some(Line::GivenUp {
-                values: load.give_up(),
-            })),
-        ),
-    }
+    let Some(load) = loading else {
+        return (loading, Err(out_of_sequence(offset)));
+    };
+    let values = load.give_up();
+    (None, Ok(Some(Line::GivenUp { values })))
 }

@@ -12,8 +12,7 @@ use Rattle.loads.specs.declared.open.OpenLoad.{OpenLoad}
 use Rattle.loads.specs.declared.open.RefusedLoad.{RefusedLoad}
 use Rattle.loads.specs.Opening.{IsOpen, refusing, HandedBack, Begins, Takes, Finishes}
 use Rattle.wire.specs.declared.line.Line.TheVariants as line
-use Rattle.feed.specs.declared.outcome.Outcome.TheVariants.{On}
-use Rattle.feed.specs.Step.{told, printed, silent, begun, filled, finished, after}
+use Rattle.feed.specs.Step.{told, printed, silent, begun, filled, finished, after, on}
 use Rattle.agreement.specs.Call.{wrote}
 use Rattle.agreement.specs.Check.{check, first}
 use Rattle.agreement.specs.Reply.{or_refused, finish_reply}
@@ -36,7 +35,7 @@ module _ (o w : ℕ) where
   -- what a beginning comes to where the checks find f
   pub record Opens (m p : ℕ) (q : Result OpenLoad Refusal) (f : Option Fault) : Type 0 where
     pub load : unless f (opened m p 0) closed ≡ load_of (begun q)
-    pub line : after (printed (told (λ _. line.Begun) o q)) w ≡ On (checked f o (Some line.Begun)) w
+    pub line : after (printed (told (λ _. line.Begun) o q)) w ≡ on (checked f o (Some line.Begun)) w
 
   opens_none : (m p : ℕ) (f : Fault) (q : Result OpenLoad Refusal) → q ≡ Err (refusing f m p) → Opens m p q (Some f)
   opens_none m p f q e = record { load = ap (λ x. load_of (begun x)) (sym e); line = ap (λ x. after (printed (told (λ _. line.Begun) o x)) w) e }
@@ -56,7 +55,7 @@ module _ (o w : ℕ) where
   pub record Fills (a : OpenLoad) (x : ℤ) (zs : List ℤ) (q : Result OpenLoad RefusedLoad) (zs' : List ℤ) (f : Option Fault) : Type 0 where
     pub load : unless f (opened a.level a.index (a.taken + 1)) (opened a.level a.index a.taken) ≡ load_of (filled q)
     pub values : unless f (set zs a.taken x) zs ≡ zs'
-    pub line : after (silent o q) w ≡ On (checked f o None) w
+    pub line : after (silent o q) w ≡ on (checked f o None) w
 
   fills_none : (a : OpenLoad) (x : ℤ) (zs zs' : List ℤ) (f : Fault) (q : Result OpenLoad RefusedLoad) → HandedBack a f q × (zs' ≡ zs) → Fills a x zs q zs' (Some f)
   fills_none a x zs zs' f (Ok l) e = absurd e.0
@@ -64,7 +63,7 @@ module _ (o w : ℕ) where
       record {
         load = ap (λ (l : OpenLoad). opened l.level l.index l.taken) (sym e.0.load);
         values = sym e.1;
-        line = ap (λ (y : Refusal). On (Some (line.Refused (fault_number y.fault) o)) w) e.0.refusal;
+        line = ap (λ (y : Refusal). on (Some (line.Refused (fault_number y.fault) o)) w) e.0.refusal;
       }
 
   fills_one : (a : OpenLoad) (x : ℤ) (zs zs' : List ℤ) (q : Result OpenLoad RefusedLoad) → IsOpen q a.level a.index (a.taken + 1) × (zs' ≡ set zs a.taken x) → Fills a x zs q zs' None

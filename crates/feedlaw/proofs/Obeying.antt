@@ -1,5 +1,5 @@
 -- A command on a warehouse with a history does and prints what the recount of that history says.
-use Rattle.std.proofs.Common.{◌≡◌, ℕ, suc, ◌-◌, ◌^◌, ◌<◌, true, false, ltb, leb, List, [], ◌∷◌, ℤ, Some, Ok, Err, Option, Result, sym, ap, ◌∙◌, subst, ap₂, arith}
+use Rattle.std.proofs.Common.{◌≡◌, ℕ, suc, ◌-◌, ◌^◌, ◌<◌, true, false, ltb, leb, List, [], ◌∷◌, ℤ, Some, None, Ok, Err, Option, Result, sym, ap, ◌∙◌, subst, ap₂, arith}
 use Rattle.std.proofs.lemmas.Bool.{leb-true, leb-false, ltb-false, le-ltb, cond-true, cond-false}
 use Rattle.haar.specs.Count.{W}
 use Rattle.haar.specs.Tree.{plain_sum}
@@ -15,13 +15,11 @@ use Rattle.warehouse.specs.Faithful.{Holds}
 use Rattle.warehouse.specs.Read.{◌then◌, cells_read, range_cells, floor}
 use Rattle.warehouse.specs.View.{View}
 use Rattle.warehouse.proofs.Faithful.{reads_back}
+use Rattle.loads.specs.declared.open.OpenLoad.{OpenLoad}
 use Rattle.wire.specs.declared.command.Command.TheVariants.{Grow, Begin, Value, Finish, GiveUp, Add, Point, Sum, Mean}
 use Rattle.wire.specs.declared.line.Line.{Line}
 use Rattle.wire.specs.declared.line.Line.TheVariants as line
-use Rattle.feed.specs.declared.outcome.Outcome.TheVariants.{On}
-use Rattle.feed.specs.declared.state.Loading.{Loading}
-use Rattle.feed.specs.declared.state.Loading.TheVariants.{Idle, Open}
-use Rattle.feed.specs.Step.{Reply, printed, told, point_line, sum_line, mean_line, out_of_sequence, Obeys, after}
+use Rattle.feed.specs.Step.{Reply, printed, told, point_line, sum_line, mean_line, out_of_sequence, Obeys, after, on}
 use Rattle.agreement.specs.Call.{Call, load, add, grow, Answer, repeats}
 use Rattle.agreement.specs.Check.{check, first, refusal}
 use Rattle.agreement.specs.History.{History, more, Leads, went, tally, enter_if, recount}
@@ -50,38 +48,38 @@ module _ (F v : View) (h : History) (leads : Leads F h v) where
   entered call a w s = ap (λ f. enter_if f (tally F.size h) call) (sym (right call a w s).refusals)
 
   -- nothing happened to the warehouse
-  still : (u : Turn) (l' : Loading) (r : Reply) (zs' : List ℤ) (w : View) → w ≡ v → u.desk ≡ desk (tally F.size h) (load_of l') zs' → ((k : ℕ) → after r k ≡ On u.line k) → Turns F u l' r zs' w
+  still : (u : Turn) (l' : Option OpenLoad) (r : Reply) (zs' : List ℤ) (w : View) → w ≡ v → u.desk ≡ desk (tally F.size h) (load_of l') zs' → ((k : ℕ) → after r k ≡ on u.line k) → Turns F u l' r zs' w
   still u l' r zs' w e d q = record { history = h; leads = subst (Leads F h) (sym e) leads; desk = d; line = q }
 
-  out : (o : ℕ) (r : Reply) → r ≡ Err (out_of_sequence o) → (k : ℕ) → after r k ≡ On (out_of_turn o) k
+  out : (o : ℕ) (r : Reply) → r ≡ Err (out_of_sequence o) → (k : ℕ) → after r k ≡ on (out_of_turn o) k
   out o r e k = ap (λ x. after x k) e
 
   same_desk : (l l' : Load) (zs zs' : List ℤ) → l ≡ l' → zs ≡ zs' → desk (tally F.size h) l zs ≡ desk (tally F.size h) l' zs'
   same_desk l l' zs zs' p q = ap₂ (desk (tally F.size h)) p q
 
-  module _ (zs zs' : List ℤ) (o : ℕ) (l' : Loading) (r : Reply) (w : View) where
-    begun_right : (l : Loading) (m p : ℕ) → Obeys v l zs (Begin m p) o l' r zs' w → Turns F (begin_turn (tally F.size h) (load_of l) zs m p o) l' r zs' w
-    begun_right (Open a) m p s =
-        still (begin_turn (tally F.size h) (load_of (Open a)) zs m p o) l' r zs' w s.2 (same_desk _ _ _ _ (ap load_of (sym s.0.0)) (sym s.1)) (out o r s.0.1)
-    begun_right Idle m p s =
+  module _ (zs zs' : List ℤ) (o : ℕ) (l' : Option OpenLoad) (r : Reply) (w : View) where
+    begun_right : (l : Option OpenLoad) (m p : ℕ) → Obeys v l zs (Begin m p) o l' r zs' w → Turns F (begin_turn (tally F.size h) (load_of l) zs m p o) l' r zs' w
+    begun_right (Some a) m p s =
+        still (begin_turn (tally F.size h) (load_of (Some a)) zs m p o) l' r zs' w s.2 (same_desk _ _ _ _ (ap load_of (sym s.0.0)) (sym s.1)) (out o r s.0.1)
+    begun_right None m p s =
         let b = s.0 in
         let u : (k : ℕ) → Opens o k m p b.0 (begin_checks (tally F.size h).size m p) = λ k. subst (λ n. Opens o k m p b.0 (begin_checks n m p)) size (begins o k v.size m p b.0 b.1) in
-        still (begin_turn (tally F.size h) (load_of Idle) zs m p o) l' r zs' w s.2 (same_desk _ _ _ _ ((u 0).load ∙ ap load_of (sym b.2)) (sym s.1)) (λ k. ap (λ x. after x k) b.3 ∙ (u k).line)
+        still (begin_turn (tally F.size h) (load_of None) zs m p o) l' r zs' w s.2 (same_desk _ _ _ _ ((u 0).load ∙ ap load_of (sym b.2)) (sym s.1)) (λ k. ap (λ x. after x k) b.3 ∙ (u k).line)
 
-    value_right : (l : Loading) (x : ℤ) → Obeys v l zs (Value x) o l' r zs' w → Turns F (value_turn (tally F.size h) (load_of l) zs x o) l' r zs' w
-    value_right Idle x s =
-        still (value_turn (tally F.size h) (load_of Idle) zs x o) l' r zs' w s.1 (same_desk _ _ _ _ (ap load_of (sym s.0.0)) (sym s.0.2)) (out o r s.0.1)
-    value_right (Open a) x s =
+    value_right : (l : Option OpenLoad) (x : ℤ) → Obeys v l zs (Value x) o l' r zs' w → Turns F (value_turn (tally F.size h) (load_of l) zs x o) l' r zs' w
+    value_right None x s =
+        still (value_turn (tally F.size h) (load_of None) zs x o) l' r zs' w s.1 (same_desk _ _ _ _ (ap load_of (sym s.0.0)) (sym s.0.2)) (out o r s.0.1)
+    value_right (Some a) x s =
         let b = s.0 in
         let u : (k : ℕ) → Fills o k a x zs b.0 zs' (value_checks a.level a.taken zs) = λ k. fills o k a x zs zs' b.0 b.1 in
-        still (value_turn (tally F.size h) (load_of (Open a)) zs x o) l' r zs' w s.1 (same_desk _ _ _ _ ((u 0).load ∙ ap load_of (sym b.2)) (u 0).values) (λ k. ap (λ y. after y k) b.3 ∙ (u k).line)
+        still (value_turn (tally F.size h) (load_of (Some a)) zs x o) l' r zs' w s.1 (same_desk _ _ _ _ ((u 0).load ∙ ap load_of (sym b.2)) (u 0).values) (λ k. ap (λ y. after y k) b.3 ∙ (u k).line)
 
-    give_up_right : (l : Loading) → Obeys v l zs GiveUp o l' r zs' w → Turns F (give_up_turn (tally F.size h) (load_of l) zs o) l' r zs' w
-    give_up_right Idle s = still (give_up_turn (tally F.size h) (load_of Idle) zs o) l' r zs' w s.2 (same_desk _ _ _ _ (ap load_of (sym s.0.0)) (sym s.1)) (out o r s.0.1)
-    give_up_right (Open a) s = still (give_up_turn (tally F.size h) (load_of (Open a)) zs o) l' r zs' w s.2 (same_desk _ _ _ _ (ap load_of (sym s.0.0)) (sym s.1)) (λ k. ap (λ y. after y k) s.0.1)
+    give_up_right : (l : Option OpenLoad) → Obeys v l zs GiveUp o l' r zs' w → Turns F (give_up_turn (tally F.size h) (load_of l) zs o) l' r zs' w
+    give_up_right None s = still (give_up_turn (tally F.size h) (load_of None) zs o) l' r zs' w s.2 (same_desk _ _ _ _ (ap load_of (sym s.0.0)) (sym s.1)) (out o r s.0.1)
+    give_up_right (Some a) s = still (give_up_turn (tally F.size h) (load_of (Some a)) zs o) l' r zs' w s.2 (same_desk _ _ _ _ (ap load_of (sym s.0.0)) (sym s.1)) (λ k. ap (λ y. after y k) s.0.1)
 
     -- a call of the warehouse, by its step
-    called : (l : Loading) (call : Call) (a : Answer) (say : Line) → Step v call a w → l' ≡ l → zs' ≡ zs → ((k : ℕ) → after r k ≡ On (checked (refusal (recount F (tally F.size h)) call) o (Some say)) k)
+    called : (l : Option OpenLoad) (call : Call) (a : Answer) (say : Line) → Step v call a w → l' ≡ l → zs' ≡ zs → ((k : ℕ) → after r k ≡ on (checked (refusal (recount F (tally F.size h)) call) o (Some say)) k)
         → Turns F (call_turn F.store.bands F.store.room (tally F.size h) (load_of l) zs call o say) l' r zs' w
     called l call a say s p q line =
         record {
@@ -91,23 +89,23 @@ module _ (F v : View) (h : History) (leads : Leads F h v) where
           line = line;
         }
 
-    add_right : (l : Loading) (i : ℕ) (x : ℤ) → Obeys v l zs (Add i x) o l' r zs' w → Turns F (turn F.store.bands F.store.room (desk_of F h l zs) (Add i x) o) l' r zs' w
+    add_right : (l : Option OpenLoad) (i : ℕ) (x : ℤ) → Obeys v l zs (Add i x) o l' r zs' w → Turns F (turn F.store.bands F.store.room (desk_of F h l zs) (Add i x) o) l' r zs' w
     add_right l i x s =
         let b = s.0.1 in
         let step = steps.add v w i x b.0 (leads_keeps leads).fits b.1 in
         called l (add i x) (written_reply b.0) (line.Added (W 0 (tally F.size h).size)) step s.1 s.2
         (λ k. ap (λ y. after y k) (s.0.2 ∙ ap printed b.2) ∙ written_line o k (repeats (tally F.size h).size (add i x)) (W 0 (tally F.size h).size) line.Added b.0 (refusal (recount F (tally F.size h)) (add i x)) (right (add i x) (written_reply b.0) w step).answers)
 
-    grow_right : (l : Loading) → Obeys v l zs Grow o l' r zs' w → Turns F (turn F.store.bands F.store.room (desk_of F h l zs) Grow o) l' r zs' w
+    grow_right : (l : Option OpenLoad) → Obeys v l zs Grow o l' r zs' w → Turns F (turn F.store.bands F.store.room (desk_of F h l zs) Grow o) l' r zs' w
     grow_right l s =
         let b = s.0.1 in
         let step = steps.grow v w b.0 b.1 in
         called l grow (growth_reply b.0) (line.Grown (suc (tally F.size h).size)) step s.1 s.2
         (λ k. ap (λ y. after y k) (s.0.2 ∙ ap printed b.2) ∙ grown_line o k (repeats (tally F.size h).size grow) (suc (tally F.size h).size) b.0 (refusal (recount F (tally F.size h)) grow) (right grow (growth_reply b.0) w step).answers)
 
-    finish_right : (l : Loading) → Obeys v l zs Finish o l' r zs' w → Turns F (finish_turn F.store.bands F.store.room (tally F.size h) (load_of l) zs o) l' r zs' w
-    finish_right Idle s = still (finish_turn F.store.bands F.store.room (tally F.size h) (load_of Idle) zs o) l' r zs' w s.0.2 (same_desk _ _ _ _ (ap load_of (sym s.0.0)) (sym s.1)) (out o r s.0.1)
-    finish_right (Open a) s =
+    finish_right : (l : Option OpenLoad) → Obeys v l zs Finish o l' r zs' w → Turns F (finish_turn F.store.bands F.store.room (tally F.size h) (load_of l) zs o) l' r zs' w
+    finish_right None s = still (finish_turn F.store.bands F.store.room (tally F.size h) (load_of None) zs o) l' r zs' w s.0.2 (same_desk _ _ _ _ (ap load_of (sym s.0.0)) (sym s.1)) (out o r s.0.1)
+    finish_right (Some a) s =
         let b = s.0 in
         let call : Call = load a.level a.index a.taken zs in
         let f : Option Fault = refusal (recount F (tally F.size h)) call in
@@ -117,28 +115,28 @@ module _ (F v : View) (h : History) (leads : Leads F h v) where
           history = more h call (finish_reply b.0);
           leads = went leads step;
           desk =
-              ap (λ x. desk x (unless f closed (load_of (Open a))) zs) (entered call (finish_reply b.0) w step)
+              ap (λ x. desk x (unless f closed (load_of (Some a))) zs) (entered call (finish_reply b.0) w step)
               ∙ ap₂ (desk (tally F.size (more h call (finish_reply b.0)))) (finishes_load o 0 a b.0 f _ _ v w zs b.1 answer ∙ ap load_of (sym b.2)) (sym s.1);
           line = λ k. ap (λ y. after y k) b.3 ∙ finished_line o k _ _ b.0 f answer;
         }
 
     -- a question: the warehouse's answer, and the line that it makes
-    asked : (l : Loading) (say : Reading → Line) (q : Result Reading Refusal) (u : Option Line) → r ≡ printed (told say o q) → l' ≡ l → zs' ≡ zs → w ≡ v → ((k : ℕ) → after (printed (told say o q)) k ≡ On u k)
+    asked : (l : Option OpenLoad) (say : Reading → Line) (q : Result Reading Refusal) (u : Option Line) → r ≡ printed (told say o q) → l' ≡ l → zs' ≡ zs → w ≡ v → ((k : ℕ) → after (printed (told say o q)) k ≡ on u k)
         → Turns F (turned (tally F.size h) (load_of l) zs u) l' r zs' w
     asked l say q u e p z same line = still (turned (tally F.size h) (load_of l) zs u) l' r zs' w same (same_desk _ _ _ _ (ap load_of (sym p)) (sym z)) (λ k. ap (λ y. after y k) e ∙ line k)
 
   -- what a question prints, where its answer is known
-  gives : (o : ℕ) (say : Reading → Line) (q : Result Reading Refusal) (x : ℤ) (c c' : ℕ) → q ≡ Ok (record { value = x; cells = c }) → c ≡ c' → (k : ℕ) → after (printed (told say o q)) k ≡ On (Some (say (record { value = x; cells = c' }))) k
-  gives o say q x c c' e s k = ap (λ y. after (printed (told say o y)) k) e ∙ ap (λ n. On (Some (say (record { value = x; cells = n }))) k) s
+  gives : (o : ℕ) (say : Reading → Line) (q : Result Reading Refusal) (x : ℤ) (c c' : ℕ) → q ≡ Ok (record { value = x; cells = c }) → c ≡ c' → (k : ℕ) → after (printed (told say o q)) k ≡ on (Some (say (record { value = x; cells = c' }))) k
+  gives o say q x c c' e s k = ap (λ y. after (printed (told say o y)) k) e ∙ ap (λ n. on (Some (say (record { value = x; cells = n }))) k) s
 
-  refuses : (o : ℕ) (say : Reading → Line) (q : Result Reading Refusal) (e : Refusal) → q ≡ Err e → (k : ℕ) → after (printed (told say o q)) k ≡ On (Some (line.Refused (fault_number e.fault) o)) k
+  refuses : (o : ℕ) (say : Reading → Line) (q : Result Reading Refusal) (e : Refusal) → q ≡ Err e → (k : ℕ) → after (printed (told say o q)) k ≡ on (Some (line.Refused (fault_number e.fault) o)) k
   refuses o say q e s k = ap (λ y. after (printed (told say o y)) k) s
 
   module _ (o : ℕ) where
-    point_line_right : (i k : ℕ) → after (printed (told point_line o (point_answer v i))) k ≡ On (checked (first (check (leb (2 ^ (tally F.size h).size) i) Domain ∷ [])) o (Some (line.Point ((tally F.size h).minutes i) (cells_read (tally F.size h).size 0)))) k
+    point_line_right : (i k : ℕ) → after (printed (told point_line o (point_answer v i))) k ≡ on (checked (first (check (leb (2 ^ (tally F.size h).size) i) Domain ∷ [])) o (Some (line.Point ((tally F.size h).minutes i) (cells_read (tally F.size h).size 0)))) k
     unfolding point_answer
     point_line_right i k =
-        one_check (λ f. after (printed (told point_line o (point_answer v i))) k ≡ On (checked f o (Some (line.Point ((tally F.size h).minutes i) (cells_read (tally F.size h).size 0)))) k) Domain (leb (2 ^ (tally F.size h).size) i)
+        one_check (λ f. after (printed (told point_line o (point_answer v i))) k ≡ on (checked f o (Some (line.Point ((tally F.size h).minutes i) (cells_read (tally F.size h).size 0)))) k) Domain (leb (2 ^ (tally F.size h).size) i)
         (λ past.
         let d : leb (2 ^ v.size) i ≡ true = ap (λ n. leb (2 ^ n) i) size ∙ past in
         refuses o point_line (point_answer v i) (record { fault = Domain; asked = Minute i }) (ap (ask.refused (Minute i)) (cond-false (ltb i (2 ^ v.size)) _ (Err Domain) (le-ltb _ _ (leb-true _ _ d)))) k)
@@ -146,10 +144,10 @@ module _ (F v : View) (h : History) (leads : Leads F h v) where
         let d : leb (2 ^ v.size) i ≡ false = ap (λ n. leb (2 ^ n) i) size ∙ within in
         gives o point_line (point_answer v i) _ _ _ ((reads_back v (tally F.size h).minutes holds).0 i (leb-false _ _ d)) (ap (λ n. cells_read n 0) size) k)
 
-    sum_line_right : (a b k : ℕ) → after (printed (told sum_line o (sum_answer v a b))) k ≡ On (checked (first (check (ltb b a) Range ∷ check (ltb (2 ^ (tally F.size h).size) b) Domain ∷ [])) o (Some (line.Sum (plain_sum (tally F.size h).minutes a (b - a)) (range_cells (tally F.size h).size a b)))) k
+    sum_line_right : (a b k : ℕ) → after (printed (told sum_line o (sum_answer v a b))) k ≡ on (checked (first (check (ltb b a) Range ∷ check (ltb (2 ^ (tally F.size h).size) b) Domain ∷ [])) o (Some (line.Sum (plain_sum (tally F.size h).minutes a (b - a)) (range_cells (tally F.size h).size a b)))) k
     unfolding sum_answer
     sum_line_right a b k =
-        two_checks (λ f. after (printed (told sum_line o (sum_answer v a b))) k ≡ On (checked f o (Some (line.Sum (plain_sum (tally F.size h).minutes a (b - a)) (range_cells (tally F.size h).size a b)))) k) Range Domain (ltb b a) (ltb (2 ^ (tally F.size h).size) b)
+        two_checks (λ f. after (printed (told sum_line o (sum_answer v a b))) k ≡ on (checked f o (Some (line.Sum (plain_sum (tally F.size h).minutes a (b - a)) (range_cells (tally F.size h).size a b)))) k) Range Domain (ltb b a) (ltb (2 ^ (tally F.size h).size) b)
         (λ back. refuses o sum_line (sum_answer v a b) (record { fault = Range; asked = Minutes a b }) (ap (ask.refused (Minutes a b)) (cond-true (ltb b a) (Err Range) _ back)) k)
         (λ front past.
         let d : ltb (2 ^ v.size) b ≡ true = ap (λ n. ltb (2 ^ n) b) size ∙ past in
@@ -158,10 +156,10 @@ module _ (F v : View) (h : History) (leads : Leads F h v) where
         let d : ltb (2 ^ v.size) b ≡ false = ap (λ n. ltb (2 ^ n) b) size ∙ within in
         gives o sum_line (sum_answer v a b) _ _ _ ((reads_back v (tally F.size h).minutes holds).1 a b (ltb-false _ _ front) (ltb-false _ _ d)) (ap (λ n. range_cells n a b) size) k)
 
-    mean_line_right : (a b k : ℕ) → after (printed (told mean_line o (mean_answer v a b))) k ≡ On (checked (first (check (leb b a) Range ∷ check (ltb (2 ^ (tally F.size h).size) b) Domain ∷ [])) o (Some (line.Mean (floor (plain_sum (tally F.size h).minutes a (b - a)) (b - a)) (range_cells (tally F.size h).size a b)))) k
+    mean_line_right : (a b k : ℕ) → after (printed (told mean_line o (mean_answer v a b))) k ≡ on (checked (first (check (leb b a) Range ∷ check (ltb (2 ^ (tally F.size h).size) b) Domain ∷ [])) o (Some (line.Mean (floor (plain_sum (tally F.size h).minutes a (b - a)) (b - a)) (range_cells (tally F.size h).size a b)))) k
     unfolding mean_answer
     mean_line_right a b k =
-        two_checks (λ f. after (printed (told mean_line o (mean_answer v a b))) k ≡ On (checked f o (Some (line.Mean (floor (plain_sum (tally F.size h).minutes a (b - a)) (b - a)) (range_cells (tally F.size h).size a b)))) k) Range Domain (leb b a) (ltb (2 ^ (tally F.size h).size) b)
+        two_checks (λ f. after (printed (told mean_line o (mean_answer v a b))) k ≡ on (checked f o (Some (line.Mean (floor (plain_sum (tally F.size h).minutes a (b - a)) (b - a)) (range_cells (tally F.size h).size a b)))) k) Range Domain (leb b a) (ltb (2 ^ (tally F.size h).size) b)
         (λ none. refuses o mean_line (mean_answer v a b) (record { fault = Range; asked = Minutes a b }) (ap (ask.refused (Minutes a b)) (cond-true (leb b a) (Err Range) _ none)) k)
         (λ some past.
         let d : ltb (2 ^ v.size) b ≡ true = ap (λ n. ltb (2 ^ n) b) size ∙ past in

@@ -2,33 +2,31 @@
 --   load_of       an open load by its numbers
 --   Turns         what a command did to a warehouse with a history is what the recount of that history says
 --   ObeyedRight   every command, on every such warehouse
-use Rattle.std.specs.Prelude.{◌≡◌, ℕ, List, ℤ}
+use Rattle.std.specs.Prelude.{◌≡◌, ℕ, List, ℤ, Some, None, Option}
 use Rattle.warehouse.specs.View.{View}
+use Rattle.loads.specs.declared.open.OpenLoad.{OpenLoad}
 use Rattle.wire.specs.declared.command.Command.{Command}
-use Rattle.feed.specs.declared.outcome.Outcome.TheVariants.{On}
-use Rattle.feed.specs.declared.state.Loading.{Loading}
-use Rattle.feed.specs.declared.state.Loading.TheVariants.{Idle, Open}
-use Rattle.feed.specs.Step.{Reply, Obeys, after}
+use Rattle.feed.specs.Step.{Reply, Obeys, after, on}
 use Rattle.agreement.specs.History.{History, Leads, tally}
 use Rattle.feedlaw.specs.Turns.{Load, closed, opened, Desk, desk, Turn, turn}
 
-abbrev pub load_of : Loading → Load
-load_of Idle = closed
-load_of (Open l) = opened l.level l.index l.taken
+abbrev pub load_of : Option OpenLoad → Load
+load_of None = closed
+load_of (Some l) = opened l.level l.index l.taken
 
 -- the desk of a warehouse that was founded as F and has the history h
-abbrev pub desk_of : View → History → Loading → List ℤ → Desk
+abbrev pub desk_of : View → History → Option OpenLoad → List ℤ → Desk
 desk_of F h l zs = desk (tally F.size h) (load_of l) zs
 
-pub record Turns (F : View) (t : Turn) (l : Loading) (r : Reply) (zs : List ℤ) (v : View) : Type 0 where
+pub record Turns (F : View) (t : Turn) (l : Option OpenLoad) (r : Reply) (zs : List ℤ) (v : View) : Type 0 where
   pub history : History
   pub leads : Leads F history v
   pub desk : t.desk ≡ desk_of F history l zs
-  pub line : (w : ℕ) → after r w ≡ On t.line w
+  pub line : (w : ℕ) → after r w ≡ on t.line w
 
 abbrev pub ObeyedRight : Type 0
 ObeyedRight =
-    (F v v' : View) (h : History) (l l' : Loading) (zs zs' : List ℤ) (c : Command) (o : ℕ) (r : Reply)
+    (F v v' : View) (h : History) (l l' : Option OpenLoad) (zs zs' : List ℤ) (c : Command) (o : ℕ) (r : Reply)
     → Leads F h v
     → Obeys v l zs c o l' r zs' v'
     → Turns F (turn F.store.bands F.store.room (desk_of F h l zs) c o) l' r zs' v'

@@ -2,7 +2,7 @@
 ghost use Rattle.std.specs.Prelude.{◌≡◌, ℕ, ◌-◌, ◌^◌, ◌<◌, ◌≤◌, unsigned_abs};
 ghost use Rattle.haar.specs.Places.{InTree};
 ghost use Rattle.haar.specs.Trend.{amount, trend_of};
-ghost use Rattle.warehouse.specs.Grading.{inside, graded, graded_in, graded_at, trend_reading, trend_answer};
+ghost use Rattle.warehouse.specs.Grading.{graded, graded_in, graded_at, trend_reading, trend_answer};
 ghost use Rattle.warehouse.specs.View.{known};
 
 use crate::fault::{Asked, Fault, Refusal};
@@ -70,13 +70,6 @@ fn trend_at<S: Store>(store: &S, level: u8, index: u32) -> Result<Trend, Fault>
     grade_cell(store, cell, level)
 }
 
-fn lies(size: u8, level: u8, index: u32) -> bool
-    requires { size ≤ 20 }
-    ensures { result ≡ inside size level index }
-{
-    level <= size && index < 1 << (size - level)
-}
-
 impl<S: Store> Warehouse<S> {
     // How the halves of the interval (level, index) compare.
     pub fn trend(&self, level: u8, index: u32) -> Result<Trend, Refusal>
@@ -94,7 +87,7 @@ impl<S: Store> Warehouse<S> {
         if level == 0 || level > 20 {
             return Err(Fault::Interval);
         }
-        if !lies(self.size(), level, index) {
+        if !self.has(level, index) {
             return Err(Fault::Domain);
         }
         trend_at(&self.store, level, index)

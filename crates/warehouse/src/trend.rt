@@ -6,7 +6,6 @@ ghost use Rattle.warehouse.specs.Grading.{graded, graded_in, graded_at, trend_re
 ghost use Rattle.warehouse.specs.View.{known};
 
 use crate::fault::{Asked, Fault, Refusal};
-use crate::numbers::asking;
 use crate::record::Warehouse;
 use haar::cells::difference_cell;
 use haar::trend::Trend;
@@ -70,15 +69,16 @@ fn trend_at<S: Store>(store: &S, level: u8, index: u32) -> Result<Trend, Fault>
     grade_cell(store, cell, level)
 }
 
+#[tactic(auto, unfolding(crate::specs::Grading::trend_answer))]
 impl<S: Store> Warehouse<S> {
     // How the halves of the interval (level, index) compare.
     pub fn trend(&self, level: u8, index: u32) -> Result<Trend, Refusal>
         ensures { result ≡ trend_answer (known S.means self.now) level index }
     {
-        Ok(asking(
-            self.trend_reading(level, index),
-            Asked::Interval(level, index),
-        )?)
+        let trend = self
+            .trend_reading(level, index)
+            .map_err(|fault| (fault, Asked::Interval(level, index)))?;
+        Ok(trend)
     }
 
     fn trend_reading(&self, level: u8, index: u32) -> Result<Trend, Fault>

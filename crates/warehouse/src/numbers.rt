@@ -1,6 +1,6 @@
 // The numbers of refusals, and how a refusal passes up.
 ghost use Rattle.std.specs.Prelude.{◌≡◌};
-ghost use Rattle.warehouse.specs.Faults.{fault_number, asking};
+ghost use Rattle.warehouse.specs.Faults.{fault_number};
 ghost use Rattle.warehouse.specs.declared.fault.Fault.TheVariants.{Cell};
 
 use crate::fault::{Asked, Fault, Refusal};
@@ -47,15 +47,5 @@ impl From<(Fault, Asked)> for Refusal {
             fault: pair.0,
             asked: pair.1,
         }
-    }
-}
-
-// An answer, or its fault with what was asked for.
-pub fn asking<T>(answer: Result<T, Fault>, asked: Asked) -> Result<T, (Fault, Asked)>
-    ensures { result ≡ asking answer asked }
-{
-    match answer {
-        Ok(value) => Ok(value),
-        Err(fault) => Err((fault, asked)),
     }
 }

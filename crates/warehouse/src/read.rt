@@ -6,11 +6,9 @@ ghost use Rattle.warehouse.specs.Read.{look, sight, halve, lower, read, start};
 
 use crate::fault::Fault;
 use crate::reading::Reading;
+use crate::record::LIMIT;
 use haar::cells::{difference_cell, sum_cell};
 use store::interface::Store;
-
-// The largest size of a cell that can belong to a sum.
-const LIMIT: u64 = 1 << 56;
 
 // One cell's number, as a part of a sum.
 fn seen<S: Store>(store: &S, cell: u32) -> Result<i64, Fault>

@@ -2,11 +2,10 @@
 ghost use Rattle.std.specs.Prelude.{◌≡◌, ℕ, ◌-◌, ◌^◌, ◌<◌, ◌≤◌, unsigned_abs};
 ghost use Rattle.haar.specs.Places.{InTree};
 ghost use Rattle.haar.specs.Trend.{amount, trend_of};
-ghost use Rattle.warehouse.specs.Grading.{inside, graded, graded_in, graded_at, trend_reading, trend_answer};
+ghost use Rattle.warehouse.specs.Grading.{graded, graded_in, graded_at, trend_reading, trend_answer};
 ghost use Rattle.warehouse.specs.View.{known};
 
 use crate::fault::{Asked, Fault, Refusal};
-use crate::numbers::asking;
 use crate::record::Warehouse;
 use haar::cells::difference_cell;
 use haar::trend::Trend;
@@ -70,22 +69,16 @@ fn trend_at<S: Store>(store: &S, level: u8, index: u32) -> Result<Trend, Fault>
     grade_cell(store, cell, level)
 }
 
-fn lies(size: u8, level: u8, index: u32) -> bool
-    requires { size ≤ 20 }
-    ensures { result ≡ inside size level index }
-{
-    level <= size && index < 1 << (size - level)
-}
-
+#[tactic(auto, unfolding(crate::specs::Grading::trend_answer))]
 impl<S: Store> Warehouse<S> {
     // How the halves of the interval (level, index) compare.
     pub fn trend(&self, level: u8, index: u32) -> Result<Trend, Refusal>
         ensures { result ≡ trend_answer (known S.means self.now) level index }
     {
-        Ok(asking(
-            self.trend_reading(level, index),
-            Asked::Interval(level, index),
-        )?)
+        let trend = self
+            .trend_reading(level, index)
+            .map_err(|fault| (fault, Asked::Interval(level, index)))?;
+        Ok(trend)
     }
 
     fn trend_reading(&self, level: u8, index: u32) -> Result<Trend, Fault>
@@ -94,7 +87,7 @@ impl<S: Store> Warehouse<S> {
         if level == 0 || level > 20 {
             return Err(Fault::Interval);
         }
-        if !lies(self.size(), level, index) {
+        if !self.has(level, index) {
             return Err(Fault::Domain);
         }
         trend_at(&self.store, level, index)

@@ -19,11 +19,7 @@ fn halved(size: u64, level: u8) -> f64
     requires { (size ≤ 2 ^ 53) × ((1 ≤ level) × (level ≤ 20)) }
     ensures { result ≡ amount level size }
 {
-    let mut x = size as f64;
-    for _i in 1..level {
-        x = x / 2.0;
-    }
-    x
+    (1..level).fold(size as f64, |x, _| x / 2.0)
 }
 
 fn trend_of(difference: i64, level: u8) -> Trend
@@ -37,36 +33,6 @@ fn trend_of(difference: i64, level: u8) -> Trend
     } else {
         Trend::Level
     }
-}
-
-fn grade(cell: u32, difference: i64, level: u8) -> Result<Trend, Fault>
-    requires { (1 ≤ level) × (level ≤ 20) }
-    ensures { result ≡ graded level cell difference }
-{
-    if difference.unsigned_abs() > EXACT {
-        return Err(Fault::Fine(cell));
-    }
-    Ok(trend_of(difference, level))
-}
-
-// The trend of the difference in a cell.
-fn grade_cell<S: Store>(store: &S, cell: u32, level: u8) -> Result<Trend, Fault>
-    requires { (1 ≤ level) × (level ≤ 20) }
-    ensures { result ≡ graded_in (S.means store.now) level cell }
-{
-    let difference = store.read(cell)?;
-    grade(cell, difference, level)
-}
-
-// The trend of D(level, index).
-fn trend_at<S: Store>(store: &S, level: u8, index: u32) -> Result<Trend, Fault>
-    requires tree { InTree (S.means store.now).bands level index }
-    requires some { 1 ≤ level }
-    requires most { level ≤ 20 }
-    ensures { result ≡ graded_at (S.means store.now) level index }
-{
-    let cell = difference_cell(store.bands(), level, index).unwrap();
-    grade_cell(store, cell, level)
 }
 
 #[tactic(auto, unfolding(crate::specs::Grading::trend_answer))]
@@ -90,6 +56,11 @@ impl<S: Store> Warehouse<S> {
         if !self.has(level, index) {
             return Err(Fault::Domain);
         }
-        trend_at(&self.store, level, index)
+        let cell = difference_cell(self.store.bands(), level, index).unwrap();
+        let difference = self.store.read(cell)?;
+        if difference.unsigned_abs() > EXACT {
+            return Err(Fault::Fine(cell));
+        }
+        Ok(trend_of(difference, level))
     }
 }

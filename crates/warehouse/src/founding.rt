@@ -48,10 +48,9 @@ impl<S: Store> Warehouse<S> {
         ensures store { result.store ≡ store }
         ensures size { result.asked ≡ cut (S.means store) size }
     {
-        let most = 4 * store.bands();
         Warehouse {
+            asked: size.min(4 * store.bands()),
             store,
-            asked: size.min(most),
         }
     }
 
@@ -63,14 +62,10 @@ impl<S: Store> Warehouse<S> {
     }
 
     // The store, settled.
-    pub fn close(self) -> S
+    pub fn close(mut self) -> S
         ensures { Settles (S.means self.store) (S.means result) }
     {
-        let Warehouse {
-            mut store,
-            asked: _,
-        } = self;
-        store.settle();
-        store
+        self.settle();
+        self.store
     }
 }

@@ -1,14 +1,14 @@
 // The trend of an interval: how its two halves compare.
-ghost use Rattle.std.specs.Prelude.{◌≡◌, ℕ, ◌-◌, ◌^◌, ◌<◌, ◌≤◌, unsigned_abs};
-ghost use Rattle.haar.specs.Places.{InTree};
+ghost use Rattle.std.specs.Prelude.{◌≡◌, ◌^◌, ◌≤◌, unsigned_abs};
 ghost use Rattle.haar.specs.Trend.{amount, trend_of};
-ghost use Rattle.warehouse.specs.Grading.{graded, graded_in, graded_at, trend_reading, trend_answer};
+ghost use Rattle.warehouse.specs.Grading.{trend_reading, trend_answer};
 ghost use Rattle.warehouse.specs.View.{known};
 
 use crate::fault::{Asked, Fault, Refusal};
 use crate::record::Warehouse;
 use haar::cells::difference_cell;
 use haar::trend::Trend;
+use std::cmp::Ordering;
 use store::interface::Store;
 
 // The largest size of a difference that a float halves exactly.
@@ -26,12 +26,11 @@ fn trend_of(difference: i64, level: u8) -> Trend
     requires { (unsigned_abs difference ≤ 2 ^ 53) × ((1 ≤ level) × (level ≤ 20)) }
     ensures { result ≡ trend_of level difference }
 {
-    if difference > 0 {
-        Trend::Falling(halved(difference.unsigned_abs(), level))
-    } else if difference < 0 {
-        Trend::Rising(halved(difference.unsigned_abs(), level))
-    } else {
-        Trend::Level
+    let amount = halved(difference.unsigned_abs(), level);
+    match difference.cmp(&0) {
+        Ordering::Greater => Trend::Falling(amount),
+        Ordering::Less => Trend::Rising(amount),
+        Ordering::Equal => Trend::Level,
     }
 }
 

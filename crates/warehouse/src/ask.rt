@@ -4,8 +4,6 @@ ghost use Rattle.warehouse.specs.Ask.{point_reading, sum_reading, mean_reading, 
 ghost use Rattle.warehouse.specs.View.{known};
 
 use crate::fault::{Asked, Fault, Refusal};
-use crate::range::read_range;
-use crate::read::read_piece;
 use crate::reading::Reading;
 use crate::record::Warehouse;
 use store::interface::Store;
@@ -45,11 +43,11 @@ impl<S: Store> Warehouse<S> {
     fn point_reading(&self, minute: u32) -> Result<Reading, Fault>
         ensures { result ≡ point_reading (known S.means self.now) minute }
     {
-        let size = self.size();
-        if minute >= 1 << size {
+        let tree = self.tree();
+        if minute >= 1 << tree.size {
             return Err(Fault::Domain);
         }
-        read_piece(&self.store, size, 0, minute)
+        tree.piece(0, minute)
     }
 
     fn sum_reading(&self, from: u32, to: u32) -> Result<Reading, Fault>
@@ -58,11 +56,11 @@ impl<S: Store> Warehouse<S> {
         if from > to {
             return Err(Fault::Range);
         }
-        let size = self.size();
-        if to > 1 << size {
+        let tree = self.tree();
+        if to > 1 << tree.size {
             return Err(Fault::Domain);
         }
-        read_range(&self.store, size, from, to)
+        tree.range(from, to)
     }
 
     fn mean_reading(&self, from: u32, to: u32) -> Result<Reading, Fault>

@@ -42,10 +42,7 @@ impl From<CellFault> for Fault {
 impl From<(Fault, Asked)> for Refusal {
     ghost from_gives = { λ e r. r ≡ record { fault = e.0; asked = e.1 } };
 
-    fn from(pair: (Fault, Asked)) -> Refusal {
-        Refusal {
-            fault: pair.0,
-            asked: pair.1,
-        }
+    fn from((fault, asked): (Fault, Asked)) -> Refusal {
+        Refusal { fault, asked }
     }
 }

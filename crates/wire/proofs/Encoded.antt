@@ -1,5 +1,5 @@
 -- A command that was encoded is decoded.
-use Rattle.std.proofs.Common.{◌≡◌, ℕ, ◌+◌, ◌*◌, ◌/◌, ◌%◌, ◌^◌, ◌<◌, cond, eqb, ltb, List, ◌++◌, length, ℤ, pos, negsuc, Ok, Err, Result, refl, ap, ◌∙◌, arith}
+use Rattle.std.proofs.Common.{◌≡◌, ℕ, ◌+◌, ◌*◌, ◌/◌, ◌%◌, ◌^◌, ◌<◌, cond, eqb, ltb, List, ◌++◌, length, ℤ, pos, negsuc, Err, Result, refl, ap, ◌∙◌, arith}
 use Rattle.std.proofs.lemmas.Bool.Decides.{nat_tests}
 use Rattle.wire.specs.Decode.{big_endian, twos_complement}
 use Rattle.wire.specs.Encode.{four_bytes, bits_of, encode, InRangeSigned, DecodesEncoded}

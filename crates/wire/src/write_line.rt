@@ -23,6 +23,7 @@ pub fn write_line(line: Line, buffer: &mut [u8]) -> Result<usize, LineFault>
     Ok(text.len())
 }
 
+// Not by `write!`: its contract leaves an `Err` open, and a line that fits is never refused.
 fn line_text(line: Line) -> Text
     ensures { result.bytes ≡ line_bytes line }
 {
@@ -74,7 +75,7 @@ fn pair<I: Integer, J: Integer>(letter: char, first: I, second: J) -> Text
     text
 }
 
-// A space, then the number. `write!` may answer `Err`, by its contract, and a line never fails.
+// A space, then the number.
 fn push_field<I: Integer>(text: &mut Text, n: I)
     requires { array_string_len text.old + I.MAX_STR_LEN < 48 }
     ensures bytes { text.new.bytes ≡ text.old.bytes ++ 32 ∷ I.text n }

@@ -1,6 +1,7 @@
 // The layer's calls as a store.
 ghost use Rattle.std.specs.Prelude.{◌≡◌, pos, ◌<ℤ◌, ◌≢◌};
 ghost use Rattle.store.specs.Meaning.{Writes, Settles};
+ghost use Rattle.holdback.specs.Laws.{layer_lawful};
 ghost use Rattle.holdback.specs.Over.{held_over};
 ghost use Rattle.holdback.specs.Places.{Goes, Untouched};
 
@@ -12,6 +13,8 @@ use store::interface::Store;
 
 impl<S: Store> Store for HoldBack<S> {
     ghost means = { λ h. held_over h.held h.used (S.Store.means h.below) };
+
+    ghost laws = { λ h. layer_lawful _ _ _ (S.Store.laws h.below) };
 
     fn bands(&self) -> u8 {
         self.below.bands()

@@ -44,8 +44,7 @@ impl<S: Store> HoldBack<S> {
     pub(crate) fn has_room(&self, more: u32) -> bool
         ensures { Fits (held_over self.now.held self.now.used (S.Store.means self.now.below)) more result }
     {
-        // a store's bands come with its law: room is at most 2^21, so the sum may stop at the largest number
-        let _ = self.below.bands();
+        // room is at most 2^21, so the sum may stop at the largest number
         self.below.fits(more.saturating_add(self.count_fresh()))
     }
 }

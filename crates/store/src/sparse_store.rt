@@ -1,4 +1,5 @@
 // The sparse store's calls.
+ghost use Rattle.store.specs.Laws.{table_lawful};
 ghost use Rattle.store.specs.SparseMeaning.{sparse_means};
 
 use crate::fault::CellFault;
@@ -8,6 +9,8 @@ use haar::cells::cell_count;
 
 impl Store for Sparse {
     ghost means = { sparse_means };
+
+    ghost laws = { λ s. table_lawful s.entries s.used s.bands s.capacity s.few s.bounded };
 
     fn bands(&self) -> u8 {
         self.bands

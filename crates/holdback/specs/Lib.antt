@@ -1,3 +1,3 @@
 pub mod Over
 pub mod Laws
-pub mod Places
+pub mod Layer

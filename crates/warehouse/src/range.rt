@@ -33,17 +33,6 @@ fn longest(size: u8, from: u32, to: u32) -> u8
     0
 }
 
-// Two readings as one.
-fn joined(first: Reading, second: Reading) -> Reading
-    requires { (unsigned_abs first.value ≤ 2 ^ 62) × ((unsigned_abs second.value ≤ 2 ^ 56) × (first.cells + second.cells < 2 ^ 32)) }
-    ensures { result ≡ record { value = first.value +ℤ second.value; cells = first.cells + second.cells } }
-{
-    Reading {
-        value: first.value + second.value,
-        cells: first.cells + second.cells,
-    }
-}
-
 impl<S: Store> Tree<'_, S> {
     // The sum of the minutes from `from` to `to - 1`, each time by the longest interval that starts where the last one ended.
     pub(crate) fn range(&self, from: u32, to: u32) -> Result<Reading, Fault>
@@ -56,7 +45,8 @@ impl<S: Store> Tree<'_, S> {
         while at < to {
             let level = longest(self.size, at, to);
             let piece = self.piece(level, at >> level)?;
-            sum = joined(sum, piece);
+            sum.value += piece.value;
+            sum.cells += piece.cells;
             at += 1 << level;
         }
         Ok(sum)

@@ -51,6 +51,7 @@ impl<S: Store> Tree<'_, S> {
     }
 
     // S(level, index), from the sum above it.
+    #[tactic(auto, unfolding(crate::specs::Read::lower), using(crate::proofs::Descents::cell_beside))]
     fn lowered(&self, level: u8, index: u32, above: i64) -> Result<i64, Fault>
         requires tree { InTree (S.means self.now.store.now).bands (suc level) (index / 2) }
         requires small { unsigned_abs above ≤ 2 ^ 56 }

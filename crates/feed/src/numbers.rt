@@ -1,6 +1,6 @@
 // The numbers of the feed's refusals, and how a refusal passes up.
 ghost use Rattle.std.specs.Prelude.{◌≡◌};
-ghost use Rattle.feed.specs.Faults.{cause_number, fault_line, placed};
+ghost use Rattle.feed.specs.Faults.{cause_number, fault_line};
 ghost use Rattle.feed.specs.declared.fault.Cause.TheVariants.{Decode, Warehouse};
 
 use crate::fault::{Cause, FeedFault};
@@ -18,14 +18,16 @@ impl FeedFault {
             Cause::Warehouse(refusal) => refusal.fault.number(),
         }
     }
+}
 
-    // The line that says it.
-    pub fn line(self) -> Line
-        ensures { result ≡ fault_line self }
-    {
+// The line that says it.
+impl From<FeedFault> for Line {
+    ghost from_gives = { λ fault line. line ≡ fault_line fault };
+
+    fn from(fault: FeedFault) -> Line {
         Line::Refused {
-            number: self.number(),
-            offset: self.offset,
+            number: fault.number(),
+            offset: fault.offset,
         }
     }
 }
@@ -49,15 +51,5 @@ impl From<(Refusal, u64)> for FeedFault {
             cause: Cause::Warehouse(pair.0),
             offset: pair.1,
         }
-    }
-}
-
-// An answer, or its refusal with the offset.
-pub fn placed<T>(answer: Result<T, Refusal>, offset: u64) -> Result<T, (Refusal, u64)>
-    ensures { result ≡ placed answer offset }
-{
-    match answer {
-        Ok(value) => Ok(value),
-        Err(refusal) => Err((refusal, offset)),
     }
 }

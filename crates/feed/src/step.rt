@@ -1,80 +1,22 @@
 // From one command to its line.
 ghost use Rattle.std.specs.Prelude.{◌≡◌, Some, Err};
 ghost use Rattle.warehouse.specs.View.{known};
-ghost use Rattle.warehouse.specs.Ask.{point_answer, sum_answer, mean_answer};
-ghost use Rattle.feed.specs.Step.{told, point_line, sum_line, mean_line, Adds, Raises, Begun, Filled, Finished, GivenUp, out_of_sequence, refused};
+ghost use Rattle.feed.specs.Step.{told, Begun, Filled, Finished, GivenUp, out_of_sequence, refused};
 
 use crate::fault::{Cause, FeedFault};
-use crate::numbers::placed;
-use loads::growth::grow;
 use loads::loading::begin;
 use loads::open::{OpenLoad, RefusedLoad};
-use loads::point::add_point;
 use store::interface::Store;
+use warehouse::fault::Refusal;
 use warehouse::record::Warehouse;
 use wire::line::Line;
 
-pub(crate) fn add<S: Store>(
-    warehouse: &mut Warehouse<S>,
-    minute: u32,
-    value: i32,
-    offset: u64,
-) -> Result<Line, FeedFault>
-    ensures { Adds (known S.means warehouse.old) minute value offset result (known S.means warehouse.new) }
+// The line of an answer, or its refusal with the offset.
+pub(crate) fn told(answer: Result<Line, Refusal>, offset: u64) -> Result<Option<Line>, FeedFault>
+    ensures { result ≡ told (λ line. line) offset answer }
 {
-    let cells = placed(add_point(warehouse, minute, i64::from(value)), offset)?;
-    Ok(Line::Added { cells })
-}
-
-pub(crate) fn raise<S: Store>(warehouse: &mut Warehouse<S>, offset: u64) -> Result<Line, FeedFault>
-    ensures { Raises (known S.means warehouse.old) offset result (known S.means warehouse.new) }
-{
-    let size = placed(grow(warehouse), offset)?;
-    Ok(Line::Grown { size })
-}
-
-pub(crate) fn ask_point<S: Store>(
-    warehouse: &Warehouse<S>,
-    minute: u32,
-    offset: u64,
-) -> Result<Line, FeedFault>
-    ensures { result ≡ told point_line offset (point_answer (known S.means warehouse.now) minute) }
-{
-    let reading = placed(warehouse.point(minute), offset)?;
-    Ok(Line::Point {
-        value: reading.value,
-        cells: reading.cells,
-    })
-}
-
-pub(crate) fn ask_sum<S: Store>(
-    warehouse: &Warehouse<S>,
-    from: u32,
-    to: u32,
-    offset: u64,
-) -> Result<Line, FeedFault>
-    ensures { result ≡ told sum_line offset (sum_answer (known S.means warehouse.now) from to) }
-{
-    let reading = placed(warehouse.sum(from, to), offset)?;
-    Ok(Line::Sum {
-        sum: reading.value,
-        cells: reading.cells,
-    })
-}
-
-pub(crate) fn ask_mean<S: Store>(
-    warehouse: &Warehouse<S>,
-    from: u32,
-    to: u32,
-    offset: u64,
-) -> Result<Line, FeedFault>
-    ensures { result ≡ told mean_line offset (mean_answer (known S.means warehouse.now) from to) }
-{
-    let reading = placed(warehouse.mean(from, to), offset)?;
-    Ok(Line::Mean {
-        mean: reading.value,
-        cells: reading.cells,
-    })
+    let line = answer.map_err(|refusal| (refusal, offset))?;
+    Ok(Some(line))
 }
 
 fn out_of_sequence(offset: u64) -> FeedFault

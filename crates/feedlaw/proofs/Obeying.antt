@@ -19,7 +19,7 @@ use Rattle.loads.specs.declared.open.OpenLoad.{OpenLoad}
 use Rattle.wire.specs.declared.command.Command.TheVariants.{Grow, Begin, Value, Finish, GiveUp, Add, Point, Sum, Mean}
 use Rattle.wire.specs.declared.line.Line.{Line}
 use Rattle.wire.specs.declared.line.Line.TheVariants as line
-use Rattle.feed.specs.Step.{Reply, printed, told, point_line, sum_line, mean_line, out_of_sequence, Obeys, after, on}
+use Rattle.feed.specs.Step.{Reply, told, point_line, sum_line, mean_line, out_of_sequence, Obeys, after, on}
 use Rattle.agreement.specs.Call.{Call, load, add, grow, Answer, repeats}
 use Rattle.agreement.specs.Check.{check, first, refusal}
 use Rattle.agreement.specs.History.{History, more, Leads, went, tally, enter_if, recount}
@@ -91,17 +91,17 @@ module _ (F v : View) (h : History) (leads : Leads F h v) where
 
     add_right : (l : Option OpenLoad) (i : ℕ) (x : ℤ) → Obeys v l zs (Add i x) o l' r zs' w → Turns F (turn F.store.bands F.store.room (desk_of F h l zs) (Add i x) o) l' r zs' w
     add_right l i x s =
-        let b = s.0.1 in
+        let b = s.0 in
         let step = steps.add v w i x b.0 (leads_keeps leads).fits b.1 in
         called l (add i x) (written_reply b.0) (line.Added (W 0 (tally F.size h).size)) step s.1 s.2
-        (λ k. ap (λ y. after y k) (s.0.2 ∙ ap printed b.2) ∙ written_line o k (repeats (tally F.size h).size (add i x)) (W 0 (tally F.size h).size) line.Added b.0 (refusal (recount F (tally F.size h)) (add i x)) (right (add i x) (written_reply b.0) w step).answers)
+        (λ k. ap (λ y. after y k) b.2 ∙ written_line o k (repeats (tally F.size h).size (add i x)) (W 0 (tally F.size h).size) line.Added b.0 (refusal (recount F (tally F.size h)) (add i x)) (right (add i x) (written_reply b.0) w step).answers)
 
     grow_right : (l : Option OpenLoad) → Obeys v l zs Grow o l' r zs' w → Turns F (turn F.store.bands F.store.room (desk_of F h l zs) Grow o) l' r zs' w
     grow_right l s =
-        let b = s.0.1 in
+        let b = s.0 in
         let step = steps.grow v w b.0 b.1 in
         called l grow (growth_reply b.0) (line.Grown (suc (tally F.size h).size)) step s.1 s.2
-        (λ k. ap (λ y. after y k) (s.0.2 ∙ ap printed b.2) ∙ grown_line o k (repeats (tally F.size h).size grow) (suc (tally F.size h).size) b.0 (refusal (recount F (tally F.size h)) grow) (right grow (growth_reply b.0) w step).answers)
+        (λ k. ap (λ y. after y k) b.2 ∙ grown_line o k (repeats (tally F.size h).size grow) (suc (tally F.size h).size) b.0 (refusal (recount F (tally F.size h)) grow) (right grow (growth_reply b.0) w step).answers)
 
     finish_right : (l : Option OpenLoad) → Obeys v l zs Finish o l' r zs' w → Turns F (finish_turn F.store.bands F.store.room (tally F.size h) (load_of l) zs o) l' r zs' w
     finish_right None s = still (finish_turn F.store.bands F.store.room (tally F.size h) (load_of None) zs o) l' r zs' w s.0.2 (same_desk _ _ _ _ (ap load_of (sym s.0.0)) (sym s.1)) (out o r s.0.1)
@@ -121,22 +121,22 @@ module _ (F v : View) (h : History) (leads : Leads F h v) where
         }
 
     -- a question: the warehouse's answer, and the line that it makes
-    asked : (l : Option OpenLoad) (say : Reading → Line) (q : Result Reading Refusal) (u : Option Line) → r ≡ printed (told say o q) → l' ≡ l → zs' ≡ zs → w ≡ v → ((k : ℕ) → after (printed (told say o q)) k ≡ on u k)
+    asked : (l : Option OpenLoad) (say : Reading → Line) (q : Result Reading Refusal) (u : Option Line) → r ≡ told say o q → l' ≡ l → zs' ≡ zs → w ≡ v → ((k : ℕ) → after (told say o q) k ≡ on u k)
         → Turns F (turned (tally F.size h) (load_of l) zs u) l' r zs' w
     asked l say q u e p z same line = still (turned (tally F.size h) (load_of l) zs u) l' r zs' w same (same_desk _ _ _ _ (ap load_of (sym p)) (sym z)) (λ k. ap (λ y. after y k) e ∙ line k)
 
   -- what a question prints, where its answer is known
-  gives : (o : ℕ) (say : Reading → Line) (q : Result Reading Refusal) (x : ℤ) (c c' : ℕ) → q ≡ Ok (record { value = x; cells = c }) → c ≡ c' → (k : ℕ) → after (printed (told say o q)) k ≡ on (Some (say (record { value = x; cells = c' }))) k
-  gives o say q x c c' e s k = ap (λ y. after (printed (told say o y)) k) e ∙ ap (λ n. on (Some (say (record { value = x; cells = n }))) k) s
+  gives : (o : ℕ) (say : Reading → Line) (q : Result Reading Refusal) (x : ℤ) (c c' : ℕ) → q ≡ Ok (record { value = x; cells = c }) → c ≡ c' → (k : ℕ) → after (told say o q) k ≡ on (Some (say (record { value = x; cells = c' }))) k
+  gives o say q x c c' e s k = ap (λ y. after (told say o y) k) e ∙ ap (λ n. on (Some (say (record { value = x; cells = n }))) k) s
 
-  refuses : (o : ℕ) (say : Reading → Line) (q : Result Reading Refusal) (e : Refusal) → q ≡ Err e → (k : ℕ) → after (printed (told say o q)) k ≡ on (Some (line.Refused (fault_number e.fault) o)) k
-  refuses o say q e s k = ap (λ y. after (printed (told say o y)) k) s
+  refuses : (o : ℕ) (say : Reading → Line) (q : Result Reading Refusal) (e : Refusal) → q ≡ Err e → (k : ℕ) → after (told say o q) k ≡ on (Some (line.Refused (fault_number e.fault) o)) k
+  refuses o say q e s k = ap (λ y. after (told say o y) k) s
 
   module _ (o : ℕ) where
-    point_line_right : (i k : ℕ) → after (printed (told point_line o (point_answer v i))) k ≡ on (checked (first (check (leb (2 ^ (tally F.size h).size) i) Domain ∷ [])) o (Some (line.Point ((tally F.size h).minutes i) (cells_read (tally F.size h).size 0)))) k
+    point_line_right : (i k : ℕ) → after (told point_line o (point_answer v i)) k ≡ on (checked (first (check (leb (2 ^ (tally F.size h).size) i) Domain ∷ [])) o (Some (line.Point ((tally F.size h).minutes i) (cells_read (tally F.size h).size 0)))) k
     unfolding point_answer
     point_line_right i k =
-        one_check (λ f. after (printed (told point_line o (point_answer v i))) k ≡ on (checked f o (Some (line.Point ((tally F.size h).minutes i) (cells_read (tally F.size h).size 0)))) k) Domain (leb (2 ^ (tally F.size h).size) i)
+        one_check (λ f. after (told point_line o (point_answer v i)) k ≡ on (checked f o (Some (line.Point ((tally F.size h).minutes i) (cells_read (tally F.size h).size 0)))) k) Domain (leb (2 ^ (tally F.size h).size) i)
         (λ past.
         let d : leb (2 ^ v.size) i ≡ true = ap (λ n. leb (2 ^ n) i) size ∙ past in
         refuses o point_line (point_answer v i) (record { fault = Domain; asked = Minute i }) (ap (ask.refused (Minute i)) (cond-false (ltb i (2 ^ v.size)) _ (Err Domain) (le-ltb _ _ (leb-true _ _ d)))) k)
@@ -144,10 +144,10 @@ module _ (F v : View) (h : History) (leads : Leads F h v) where
         let d : leb (2 ^ v.size) i ≡ false = ap (λ n. leb (2 ^ n) i) size ∙ within in
         gives o point_line (point_answer v i) _ _ _ ((reads_back v (tally F.size h).minutes holds).0 i (leb-false _ _ d)) (ap (λ n. cells_read n 0) size) k)
 
-    sum_line_right : (a b k : ℕ) → after (printed (told sum_line o (sum_answer v a b))) k ≡ on (checked (first (check (ltb b a) Range ∷ check (ltb (2 ^ (tally F.size h).size) b) Domain ∷ [])) o (Some (line.Sum (plain_sum (tally F.size h).minutes a (b - a)) (range_cells (tally F.size h).size a b)))) k
+    sum_line_right : (a b k : ℕ) → after (told sum_line o (sum_answer v a b)) k ≡ on (checked (first (check (ltb b a) Range ∷ check (ltb (2 ^ (tally F.size h).size) b) Domain ∷ [])) o (Some (line.Sum (plain_sum (tally F.size h).minutes a (b - a)) (range_cells (tally F.size h).size a b)))) k
     unfolding sum_answer
     sum_line_right a b k =
-        two_checks (λ f. after (printed (told sum_line o (sum_answer v a b))) k ≡ on (checked f o (Some (line.Sum (plain_sum (tally F.size h).minutes a (b - a)) (range_cells (tally F.size h).size a b)))) k) Range Domain (ltb b a) (ltb (2 ^ (tally F.size h).size) b)
+        two_checks (λ f. after (told sum_line o (sum_answer v a b)) k ≡ on (checked f o (Some (line.Sum (plain_sum (tally F.size h).minutes a (b - a)) (range_cells (tally F.size h).size a b)))) k) Range Domain (ltb b a) (ltb (2 ^ (tally F.size h).size) b)
         (λ back. refuses o sum_line (sum_answer v a b) (record { fault = Range; asked = Minutes a b }) (ap (ask.refused (Minutes a b)) (cond-true (ltb b a) (Err Range) _ back)) k)
         (λ front past.
         let d : ltb (2 ^ v.size) b ≡ true = ap (λ n. ltb (2 ^ n) b) size ∙ past in
@@ -156,10 +156,10 @@ module _ (F v : View) (h : History) (leads : Leads F h v) where
         let d : ltb (2 ^ v.size) b ≡ false = ap (λ n. ltb (2 ^ n) b) size ∙ within in
         gives o sum_line (sum_answer v a b) _ _ _ ((reads_back v (tally F.size h).minutes holds).1 a b (ltb-false _ _ front) (ltb-false _ _ d)) (ap (λ n. range_cells n a b) size) k)
 
-    mean_line_right : (a b k : ℕ) → after (printed (told mean_line o (mean_answer v a b))) k ≡ on (checked (first (check (leb b a) Range ∷ check (ltb (2 ^ (tally F.size h).size) b) Domain ∷ [])) o (Some (line.Mean (floor (plain_sum (tally F.size h).minutes a (b - a)) (b - a)) (range_cells (tally F.size h).size a b)))) k
+    mean_line_right : (a b k : ℕ) → after (told mean_line o (mean_answer v a b)) k ≡ on (checked (first (check (leb b a) Range ∷ check (ltb (2 ^ (tally F.size h).size) b) Domain ∷ [])) o (Some (line.Mean (floor (plain_sum (tally F.size h).minutes a (b - a)) (b - a)) (range_cells (tally F.size h).size a b)))) k
     unfolding mean_answer
     mean_line_right a b k =
-        two_checks (λ f. after (printed (told mean_line o (mean_answer v a b))) k ≡ on (checked f o (Some (line.Mean (floor (plain_sum (tally F.size h).minutes a (b - a)) (b - a)) (range_cells (tally F.size h).size a b)))) k) Range Domain (leb b a) (ltb (2 ^ (tally F.size h).size) b)
+        two_checks (λ f. after (told mean_line o (mean_answer v a b)) k ≡ on (checked f o (Some (line.Mean (floor (plain_sum (tally F.size h).minutes a (b - a)) (b - a)) (range_cells (tally F.size h).size a b)))) k) Range Domain (leb b a) (ltb (2 ^ (tally F.size h).size) b)
         (λ none. refuses o mean_line (mean_answer v a b) (record { fault = Range; asked = Minutes a b }) (ap (ask.refused (Minutes a b)) (cond-true (leb b a) (Err Range) _ none)) k)
         (λ some past.
         let d : ltb (2 ^ v.size) b ≡ true = ap (λ n. ltb (2 ^ n) b) size ∙ past in

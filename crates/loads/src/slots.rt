@@ -1,20 +1,10 @@
 // The slots of a tile, and which of them a chunk touches.
 ghost use Rattle.std.specs.Prelude.{◌≡◌, ℕ, ◌+◌, ◌-◌, ◌*◌, ◌/◌, ◌^◌, ◌<◌, ◌≤◌, true, false, ◌≢◌};
-ghost use Rattle.haar.specs.Tiles.{tiles_before};
 ghost use Rattle.haar.specs.Count.{bands_in_use};
 ghost use Rattle.loads.specs.Reach.{Sits, Meets};
 
 use crate::reach::Reach;
-use haar::cells::tiles_before;
 use haar::coefficient::Coefficient;
-
-// how many tiles stand before the band that has `above` bands above it
-pub(crate) fn tiles_above(above: u8) -> u32
-    requires { above ≤ 5 }
-    ensures { result ≡ tiles_before above }
-{
-    tiles_before(above)
-}
 
 pub(crate) fn bands_in_use(size: u8) -> u8
     requires { size ≤ 20 }

@@ -23,7 +23,7 @@ fn in_limits(value: i64) -> bool
     ensures yes { result ≡ true → Limit value }
     ensures none { result ≡ false → Limit value → ⊥ }
 {
-    -2_147_483_648 <= value && value < 2_147_483_648
+    i32::try_from(value).is_ok()
 }
 
 // the lowest place of a value outside its limits
@@ -31,12 +31,8 @@ fn first_outside(values: &[i64]) -> Option<u32>
     requires { length values.now ≤ 4096 }
     ensures { elim result [ Some i ↦ (i < length values.now) × (Limit (slice_index_or values.now i (pos 0)) → ⊥) × Limited i values.now | None ↦ Limited (length values.now) values.now ] }
 {
-    for i in 0..values.len() {
-        if !in_limits(values[i]) {
-            return Some(i as u32);
-        }
-    }
-    None
+    let place = values.iter().position(|value| !in_limits(*value))?;
+    Some(place as u32)
 }
 
 pub(crate) fn add_values<S: Store>(

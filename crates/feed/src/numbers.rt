@@ -32,6 +32,7 @@ impl From<FeedFault> for Line {
     }
 }
 
+// One `From` for each lower fault: a generic one would want two more, from each into `Cause`.
 impl From<(DecodeFault, u64)> for FeedFault {
     ghost from_gives = { λ e r. r ≡ record { cause = Decode e.0; offset = e.1 } };
 

@@ -5,7 +5,7 @@ ghost use Rattle.feed.specs.Step.{after, Obeys, Steps, ending};
 
 use crate::fault::{Cause, FeedFault};
 use crate::obeyed::Obeyed;
-use crate::step::{begin_load, finish_load, give_up_load, take_value, told};
+use crate::step::{Reply, begin_load, finish_load, give_up_load, take_value, told};
 use loads::growth::grow;
 use loads::open::OpenLoad;
 use loads::point::add_point;
@@ -22,7 +22,7 @@ fn obey<S: Store>(
     buffer: &mut [i64],
     command: Command,
     offset: u64,
-) -> (Option<OpenLoad>, Result<Option<Line>, FeedFault>)
+) -> (Option<OpenLoad>, Reply)
     ensures { Obeys (known S.means warehouse.old) loading buffer.old command offset result.0 result.1 buffer.new (known S.means warehouse.new) }
 {
     let answer = match command {
@@ -53,7 +53,7 @@ fn obey<S: Store>(
 }
 
 // What a reply leads to: an unknown byte and missing operands end the feed.
-fn after(reply: Result<Option<Line>, FeedFault>, width: usize) -> ControlFlow<Line, Obeyed>
+fn after(reply: Reply, width: usize) -> ControlFlow<Line, Obeyed>
     ensures { result ≡ after reply width }
 {
     let line = match reply {
@@ -67,6 +67,8 @@ fn after(reply: Result<Option<Line>, FeedFault>, width: usize) -> ControlFlow<Li
 }
 
 // The command at the front of the bytes, which stands at this offset of the feed.
+// The load goes in and out by value: put back behind a `&mut`, it would drop what stood there, which it cannot.
+#[tactic(auto, using(crate::proofs::Advancing::shorter))]
 pub fn step<S: Store>(
     warehouse: &mut Warehouse<S>,
     loading: Option<OpenLoad>,

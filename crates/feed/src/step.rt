@@ -11,8 +11,11 @@ use warehouse::fault::Refusal;
 use warehouse::record::Warehouse;
 use wire::line::Line;
 
+// What a command prints, if anything, or why it is refused.
+pub(crate) type Reply = Result<Option<Line>, FeedFault>;
+
 // The line of an answer, or its refusal with the offset.
-pub(crate) fn told(answer: Result<Line, Refusal>, offset: u64) -> Result<Option<Line>, FeedFault>
+pub(crate) fn told(answer: Result<Line, Refusal>, offset: u64) -> Reply
     ensures { result ≡ told (λ line. line) offset answer }
 {
     let line = answer.map_err(|refusal| (refusal, offset))?;
@@ -34,7 +37,7 @@ pub(crate) fn begin_load<S: Store>(
     level: u8,
     index: u32,
     offset: u64,
-) -> (Option<OpenLoad>, Result<Option<Line>, FeedFault>)
+) -> (Option<OpenLoad>, Reply)
     ensures { Begun (known S.means warehouse.now).size loading level index offset result.0 result.1 }
 {
     match loading {
@@ -47,10 +50,7 @@ pub(crate) fn begin_load<S: Store>(
 }
 
 // A refused call hands its load back.
-fn handed_back(
-    back: RefusedLoad,
-    offset: u64,
-) -> (Option<OpenLoad>, Result<Option<Line>, FeedFault>)
+fn handed_back(back: RefusedLoad, offset: u64) -> (Option<OpenLoad>, Reply)
     ensures load { result.0 ≡ Some back.load }
     ensures refusal { result.1 ≡ Err (refused back.refusal offset) }
 {
@@ -63,7 +63,7 @@ pub(crate) fn take_value(
     buffer: &mut [i64],
     value: i32,
     offset: u64,
-) -> (Option<OpenLoad>, Result<Option<Line>, FeedFault>)
+) -> (Option<OpenLoad>, Reply)
     ensures { Filled loading buffer.old value offset result.0 result.1 buffer.new }
 {
     let Some(load) = loading else {
@@ -80,7 +80,7 @@ pub(crate) fn finish_load<S: Store>(
     loading: Option<OpenLoad>,
     buffer: &mut [i64],
     offset: u64,
-) -> (Option<OpenLoad>, Result<Option<Line>, FeedFault>)
+) -> (Option<OpenLoad>, Reply)
     ensures restored { buffer.new ≡ buffer.old }
     ensures finished { Finished (known S.means warehouse.old) loading buffer.old offset result.0 result.1 (known S.means warehouse.new) }
 {
@@ -93,10 +93,7 @@ pub(crate) fn finish_load<S: Store>(
     }
 }
 
-pub(crate) fn give_up_load(
-    loading: Option<OpenLoad>,
-    offset: u64,
-) -> (Option<OpenLoad>, Result<Option<Line>, FeedFault>)
+pub(crate) fn give_up_load(loading: Option<OpenLoad>, offset: u64) -> (Option<OpenLoad>, Reply)
     ensures { GivenUp loading offset result.0 result.1 }
 {
     let Some(load) = loading else {

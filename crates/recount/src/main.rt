@@ -65,11 +65,7 @@ fn report(rt: &HostRuntime, tally: &Tally, found: Comparison) -> anyhow::Result<
         "the accepted additions went into a flat store too, as {} points, last minute first",
         tally.points
     )?;
-    match found {
-        Comparison::Bands => println!(rt; "the two stores have not equally many bands")?,
-        Comparison::Differ(cell) => println!(rt; "the two warehouses differ first in cell {cell}")?,
-        Comparison::Alike => println!(rt; "the two warehouses share every cell")?,
-    }
+    println!(rt; "{found}")?;
     Ok(())
 }
 

@@ -9,9 +9,7 @@ ghost use Rattle.loads.specs.Loads.{Small, Clear, Checked, Stored, fresh};
 use crate::share::ChunkTree;
 use crate::touched::Touched;
 use store::interface::Store;
-
-// the limit of a cell
-const LIMIT: u64 = 1 << 56;
+use warehouse::record::LIMIT;
 
 // whether a cell may hold the number
 pub(crate) fn is_small(number: i64) -> bool

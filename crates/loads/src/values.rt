@@ -1,7 +1,7 @@
 // Adding a chunk's values: the checks in their order, and the writing.
 ghost use Rattle.std.specs.Prelude.{◌≡◌, ℕ, ◌-◌, ◌*◌, ◌^◌, ◌<◌, ◌≤◌, true, false, length, pos, Some, None, slice_index_or};
 ghost use Rattle.warehouse.specs.View.{known};
-ghost use Rattle.loads.specs.Addition.{Lies, Limit, Limited, Additions};
+ghost use Rattle.loads.specs.Addition.{Limit, Limited, Additions};
 
 use crate::chunk::add_chunk;
 use crate::reach::Reach;
@@ -9,15 +9,6 @@ use store::fault::CellFault;
 use store::interface::Store;
 use warehouse::fault::Fault;
 use warehouse::record::Warehouse;
-
-// the chunk is inside the size
-pub(crate) fn lies(size: u8, level: u8, index: u32) -> bool
-    requires { size ≤ 20 }
-    ensures yes { result ≡ true → Lies size level index }
-    ensures none { result ≡ false → Lies size level index → ⊥ }
-{
-    level <= size && index < 1 << (size - level)
-}
 
 fn in_limits(value: i64) -> bool
     ensures yes { result ≡ true → Limit value }
@@ -46,8 +37,7 @@ pub(crate) fn add_values<S: Store>(
     ensures restored { values.new ≡ values.old }
     ensures adds { Additions (known S.means warehouse.old) level index values.old result (known S.means warehouse.new) }
 {
-    let size = warehouse.size();
-    if !lies(size, level, index) {
+    if !warehouse.has(level, index) {
         return Err(Fault::Domain);
     }
     if let Some(place) = first_outside(values) {
@@ -59,7 +49,7 @@ pub(crate) fn add_values<S: Store>(
     }
     let reach = Reach {
         bands,
-        size,
+        size: warehouse.size(),
         level,
         index,
     };

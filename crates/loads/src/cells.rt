@@ -47,7 +47,7 @@ fn added(number: i64, share: i64) -> Option<i64>
 pub(crate) fn starts(number: i64, new: i64) -> u32
     ensures { result ≡ weight new - weight number }
 {
-    if number == 0 && new != 0 { 1 } else { 0 }
+    u32::from(number == 0 && new != 0)
 }
 
 // how many touched cells go from zero to nonzero, or the lowest whose new number is too large

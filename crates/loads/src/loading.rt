@@ -13,18 +13,15 @@ use warehouse::record::Warehouse;
 pub fn begin<S: Store>(warehouse: &Warehouse<S>, level: u8, index: u32) -> Result<OpenLoad, Refusal>
     ensures { Begins (known S.means warehouse.now).size level index result }
 {
-    let asked = Asked::Interval(level, index);
+    let refusal = |fault| Refusal {
+        fault,
+        asked: Asked::Interval(level, index),
+    };
     if level > 12 {
-        return Err(Refusal {
-            fault: Fault::Level,
-            asked,
-        });
+        return Err(refusal(Fault::Level));
     }
     if !warehouse.has(level, index) {
-        return Err(Refusal {
-            fault: Fault::Domain,
-            asked,
-        });
+        return Err(refusal(Fault::Domain));
     }
     Ok(OpenLoad {
         level,
@@ -86,6 +83,7 @@ impl OpenLoad {
         ensures restored { buffer.new ≡ buffer.old }
         ensures finishes { Finishes self (known S.means warehouse.old) buffer.old result (known S.means warehouse.new) }
     {
+        // by match: either arm uses up the load, and a closure of map_err would hold it in both
         match self.finished(warehouse, buffer) {
             Ok(written) => {
                 let _ = self.give_up();

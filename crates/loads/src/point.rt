@@ -15,7 +15,9 @@ pub fn add_point<S: Store>(
 ) -> Result<u32, Refusal>
     ensures { AddsPoint (known S.means warehouse.old) minute value result (known S.means warehouse.new) }
 {
-    let written = add_values(warehouse, 0, minute, &mut [value])
-        .map_err(|fault| (fault, Asked::Minute(minute)))?;
+    let written = add_values(warehouse, 0, minute, &mut [value]).map_err(|fault| (
+        fault,
+        Asked::Minute(minute),
+    ))?;
     Ok(written)
 }

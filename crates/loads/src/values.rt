@@ -10,19 +10,14 @@ use store::interface::Store;
 use warehouse::fault::Fault;
 use warehouse::record::Warehouse;
 
-fn in_limits(value: i64) -> bool
-    ensures yes { result ≡ true → Limit value }
-    ensures none { result ≡ false → Limit value → ⊥ }
-{
-    i32::try_from(value).is_ok()
-}
-
 // the lowest place of a value outside its limits
 fn first_outside(values: &[i64]) -> Option<u32>
     requires { length values.now ≤ 4096 }
     ensures { elim result [ Some i ↦ (i < length values.now) × (Limit (slice_index_or values.now i (pos 0)) → ⊥) × Limited i values.now | None ↦ Limited (length values.now) values.now ] }
 {
-    let place = values.iter().position(|value| !in_limits(*value))?;
+    let place = values
+        .iter()
+        .position(|value| i32::try_from(*value).is_err())?;
     Some(place as u32)
 }
 

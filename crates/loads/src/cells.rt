@@ -9,9 +9,7 @@ ghost use Rattle.loads.specs.Loads.{Small, Clear, Checked, Stored, fresh};
 use crate::share::ChunkTree;
 use crate::touched::Touched;
 use store::interface::Store;
-
-// the limit of a cell
-const LIMIT: u64 = 1 << 56;
+use warehouse::record::LIMIT;
 
 // whether a cell may hold the number
 pub(crate) fn is_small(number: i64) -> bool
@@ -49,7 +47,7 @@ fn added(number: i64, share: i64) -> Option<i64>
 pub(crate) fn starts(number: i64, new: i64) -> u32
     ensures { result ≡ weight new - weight number }
 {
-    if number == 0 && new != 0 { 1 } else { 0 }
+    u32::from(number == 0 && new != 0)
 }
 
 // how many touched cells go from zero to nonzero, or the lowest whose new number is too large

@@ -7,7 +7,6 @@ use crate::cells::{is_small, number_in, put, starts};
 use haar::cells::{difference_cell, sum_cell};
 use store::interface::Store;
 use warehouse::fault::{Asked, Fault, Refusal};
-use warehouse::numbers::asking;
 use warehouse::record::Warehouse;
 
 // The cells of a growth: where the total stands, where it comes on top, and the tile that comes in use.
@@ -95,6 +94,6 @@ pub fn grow<S: Store>(warehouse: &mut Warehouse<S>) -> Result<u8, Refusal>
     ensures { Growth (known S.means warehouse.old) result (known S.means warehouse.new) }
 {
     let size = warehouse.size();
-    let grown = asking(raise(warehouse), Asked::Size(size))?;
+    let grown = raise(warehouse).map_err(|fault| (fault, Asked::Size(size)))?;
     Ok(grown)
 }

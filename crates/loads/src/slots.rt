@@ -10,7 +10,7 @@ pub(crate) fn bands_in_use(size: u8) -> u8
     requires { size ≤ 20 }
     ensures { result ≡ bands_in_use size }
 {
-    ((size + 3) / 4).max(1)
+    size.div_ceil(4).max(1)
 }
 
 pub(crate) fn in_slot(band: u8, tile: u32, slot: u32) -> Coefficient
@@ -44,8 +44,8 @@ pub(crate) fn meets(reach: Reach, coefficient: Coefficient) -> bool
         Coefficient::TileSum(band, tile) => {
             band < bands_in_use(reach.size) && overlaps(reach, (4 * band + 4).min(reach.size), tile)
         }
-        Coefficient::Difference(level, index) => 1 <= level
-            && level <= reach.size
-            && overlaps(reach, level, index),
+        Coefficient::Difference(level, index) => {
+            (1..=reach.size).contains(&level) && overlaps(reach, level, index)
+        }
     }
 }

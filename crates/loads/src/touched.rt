@@ -9,6 +9,7 @@ use crate::reach::Reach;
 use crate::slots::{bands_in_use, in_slot, meets};
 use haar::cells::tiles_before;
 use haar::coefficient::Coefficient;
+use std::ops::Range;
 
 #[derive(Clone, Copy)]
 pub struct Touch {
@@ -16,16 +17,16 @@ pub struct Touch {
     pub coefficient: Coefficient,
 }
 
-// the cells of the band's tiles that meet the chunk: the first, and the one after the last
-fn cells_met(reach: Reach, band: u8) -> (u32, u32)
+// the cells of the band's tiles that meet the chunk
+fn cells_met(reach: Reach, band: u8) -> Range<u32>
     requires { band < reach.bands }
-    ensures { Spans reach.bands reach.level reach.index band result.0 result.1 }
+    ensures { Spans reach.bands reach.level reach.index band result.start result.end }
 {
     let top = 4 * band + 4;
     let more = reach.level.saturating_sub(top);
     let first = (reach.index >> top.saturating_sub(reach.level)) << more;
     let start = 16 * (tiles_before(reach.bands - 1 - band) + first);
-    (start, start + (16u32 << more))
+    start..start + (16u32 << more)
 }
 
 // the coefficient of a cell of a band
@@ -45,8 +46,8 @@ fn next_in_band(reach: Reach, band: u8, from: u32) -> Option<Touch>
     requires { band < reach.bands }
     ensures { elim result [ Some x ↦ FoundIn reach.bands reach.size reach.level reach.index band from (x.coefficient) x.cell | None ↦ PastIn reach.bands reach.size reach.level reach.index band from ] }
 {
-    let (start, end) = cells_met(reach, band);
-    for cell in from.max(start)..end {
+    let met = cells_met(reach, band);
+    for cell in from.max(met.start)..met.end {
         let coefficient = in_cell(reach, band, cell);
         if meets(reach, coefficient) {
             return Some(Touch { cell, coefficient });

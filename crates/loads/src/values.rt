@@ -1,7 +1,7 @@
 // Adding a chunk's values: the checks in their order, and the writing.
 ghost use Rattle.std.specs.Prelude.{◌≡◌, ℕ, ◌-◌, ◌*◌, ◌^◌, ◌<◌, ◌≤◌, true, false, length, pos, Some, None, slice_index_or};
 ghost use Rattle.warehouse.specs.View.{known};
-ghost use Rattle.loads.specs.Addition.{Lies, Limit, Limited, Additions};
+ghost use Rattle.loads.specs.Addition.{Limit, Limited, Additions};
 
 use crate::chunk::add_chunk;
 use crate::reach::Reach;
@@ -10,28 +10,14 @@ use store::interface::Store;
 use warehouse::fault::Fault;
 use warehouse::record::Warehouse;
 
-// the chunk is inside the size
-pub(crate) fn lies(size: u8, level: u8, index: u32) -> bool
-    requires { size ≤ 20 }
-    ensures yes { result ≡ true → Lies size level index }
-    ensures none { result ≡ false → Lies size level index → ⊥ }
-{
-    level <= size && index < 1 << (size - level)
-}
-
-fn in_limits(value: i64) -> bool
-    ensures yes { result ≡ true → Limit value }
-    ensures none { result ≡ false → Limit value → ⊥ }
-{
-    i32::try_from(value).is_ok()
-}
-
 // the lowest place of a value outside its limits
 fn first_outside(values: &[i64]) -> Option<u32>
     requires { length values.now ≤ 4096 }
     ensures { elim result [ Some i ↦ (i < length values.now) × (Limit (slice_index_or values.now i (pos 0)) → ⊥) × Limited i values.now | None ↦ Limited (length values.now) values.now ] }
 {
-    let place = values.iter().position(|value| !in_limits(*value))?;
+    let place = values
+        .iter()
+        .position(|value| i32::try_from(*value).is_err())?;
     Some(place as u32)
 }
 
@@ -46,8 +32,7 @@ pub(crate) fn add_values<S: Store>(
     ensures restored { values.new ≡ values.old }
     ensures adds { Additions (known S.means warehouse.old) level index values.old result (known S.means warehouse.new) }
 {
-    let size = warehouse.size();
-    if !lies(size, level, index) {
+    if !warehouse.has(level, index) {
         return Err(Fault::Domain);
     }
     if let Some(place) = first_outside(values) {
@@ -59,7 +44,7 @@ pub(crate) fn add_values<S: Store>(
     }
     let reach = Reach {
         bands,
-        size,
+        size: warehouse.size(),
         level,
         index,
     };

@@ -38,6 +38,7 @@ impl Store for Flat<'_> {
             return Err(CellFault::Cell(cell));
         }
         let zeros = zeros_after(self.zeros, self.numbers[cell as usize], value);
+        // in parts, since a write through `self.numbers` would need the count right before it too
         let Flat {
             numbers,
             zeros: kept,

@@ -38,6 +38,7 @@ impl<S: Store> Store for HoldBack<S> {
         if self.is_barred(cell) {
             return Err(CellFault::Full(cell));
         }
+        // no `or_else`, since after it the proof cannot name what its closure left below
         match self.held.put(cell, value, MOST) {
             Ok(()) => Ok(()),
             Err(_) => self.below.write(cell, value),

@@ -10,7 +10,7 @@ use store::interface::Store;
 
 impl<S: Store> HoldBack<S> {
     // Whether the store below has the cell, and it is zero there.
-    pub(crate) fn is_zero_below(&self, cell: u32) -> bool
+    fn is_zero_below(&self, cell: u32) -> bool
         ensures { result ≡ zero_at (S.Store.means self.now.below) cell }
     {
         matches!(self.below.read(cell), Ok(0))

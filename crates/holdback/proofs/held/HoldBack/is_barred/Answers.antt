@@ -1,5 +1,4 @@
-use Rattle.std.proofs.Common.{◌≡◌, false, pos, rules}
-use Rattle.std.proofs.lemmas.Bool.Decides.{nat_tests}
+use Rattle.std.proofs.Common.{false, rules}
 use Rattle.store.specs.Meaning.{Fits}
 use Rattle.holdback.specs.Layer.{layer_means}
 use Rattle.holdback.proofs.Calls.{bars_zero}

@@ -1,4 +1,4 @@
-use Rattle.std.proofs.Common.{ℤ, sym, ap, ◌∙◌, subst, Ok, Result, w64, SFits, rules}
+use Rattle.std.proofs.Common.{ℤ, sym, ap, ◌∙◌, subst, Ok, w64, SFits, rules}
 use Rattle.std.specs.Option.{unwrap_or}
 use Rattle.std.proofs.lemmas.Int.{to_z-of_z}
 use Rattle.store.specs.Meaning.{Reads}

@@ -37,7 +37,7 @@ pub enum Fault {
     Fine(u32),
 }
 
-#[derive(Clone, Copy)]
+#[derive(Clone, Copy, PartialEq, Eq, Debug)]
 pub enum Asked {
     // level, index
     Interval(u8, u32),

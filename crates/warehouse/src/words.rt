@@ -3,6 +3,7 @@ ghost use Rattle.std.specs.Prelude.{Some};
 ghost use Rattle.warehouse.specs.Words.{fault_words, asked_words, refusal_words};
 
 use crate::fault::{Asked, Fault, Refusal};
+use std::error::Error;
 use std::fmt;
 use store::fault::CellFault;
 
@@ -52,3 +53,5 @@ impl fmt::Display for Refusal {
         write!(f, "{}, asked for {}", self.fault, self.asked)
     }
 }
+
+impl Error for Refusal {}

@@ -72,7 +72,7 @@ impl<S: Store> Warehouse<S> {
         let sum = self.sum_reading(from, to)?;
         Ok(Reading {
             value: sum.value.div_euclid(i64::from(to - from)),
-            cells: sum.cells,
+            ..sum
         })
     }
 }

@@ -13,3 +13,4 @@ pub mod record;
 mod tree;
 pub mod trend;
 pub mod warehouse;
+pub mod words;

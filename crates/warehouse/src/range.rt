@@ -42,6 +42,7 @@ impl<S: Store> Tree<'_, S> {
     {
         let mut sum = Reading { value: 0, cells: 0 };
         let mut at = from;
+        // the steps differ in length, so that no range has them
         while at < to {
             let level = longest(self.size, at, to);
             let piece = self.piece(level, at >> level)?;

@@ -14,7 +14,7 @@ use store::interface::Store;
 // The largest size of a difference that a float halves exactly.
 const EXACT: u64 = 1 << 53;
 
-// A size as a float, halved once for each level past the first.
+// A size as a float, halved once for each level past the first. (A float has no `From` for 64 bits.)
 fn halved(size: u64, level: u8) -> f64
     requires { (size ≤ 2 ^ 53) × ((1 ≤ level) × (level ≤ 20)) }
     ensures { result ≡ amount level size }

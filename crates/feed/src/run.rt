@@ -67,7 +67,7 @@ fn after(reply: Reply, width: usize) -> ControlFlow<Line, Obeyed>
 }
 
 // The command at the front of the bytes, which stands at this offset of the feed.
-// The load goes in and out by value: put back behind a `&mut`, it would drop what stood there, which it cannot.
+// No struct holds the three: a load cannot be put back behind a `&mut`, and each method would owe that it keeps both loans.
 #[tactic(auto, using(crate::proofs::Advancing::shorter))]
 pub fn step<S: Store>(
     warehouse: &mut Warehouse<S>,

@@ -2,6 +2,6 @@
 #![tactic(auto)]
 
 pub mod fault;
+mod load;
 pub mod obeyed;
 pub mod run;
-mod step;

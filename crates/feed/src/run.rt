@@ -1,20 +1,29 @@
 // One command of the feed: decoded, obeyed, answered.
 ghost use Rattle.std.specs.Prelude.{◌≡◌};
 ghost use Rattle.warehouse.specs.View.{known};
-ghost use Rattle.feed.specs.Step.{after, Obeys, Steps, ending};
+ghost use Rattle.feed.specs.Step.{told, after, Obeys, Steps, ending};
 
 use crate::fault::{Cause, FeedFault};
-use crate::obeyed::Obeyed;
-use crate::step::{Reply, begin_load, finish_load, give_up_load, take_value, told};
+use crate::load::{begin_load, finish_load, give_up_load, take_value};
+use crate::obeyed::{Obeyed, Reply};
 use loads::growth::grow;
 use loads::open::OpenLoad;
 use loads::point::add_point;
 use std::ops::ControlFlow;
 use store::interface::Store;
+use warehouse::fault::Refusal;
 use warehouse::record::Warehouse;
 use wire::command::Command;
 use wire::decode::decode;
 use wire::line::Line;
+
+// The line of an answer, or its refusal with the offset.
+fn told(answer: Result<Line, Refusal>, offset: u64) -> Reply
+    ensures { result ≡ told (λ line. line) offset answer }
+{
+    let line = answer.map_err(|refusal| (refusal, offset))?;
+    Ok(Some(line))
+}
 
 fn obey<S: Store>(
     warehouse: &mut Warehouse<S>,
@@ -67,7 +76,7 @@ fn after(reply: Reply, width: usize) -> ControlFlow<Line, Obeyed>
 }
 
 // The command at the front of the bytes, which stands at this offset of the feed.
-// The load goes in and out by value: put back behind a `&mut`, it would drop what stood there, which it cannot.
+// No struct holds the three: a load cannot be put back behind a `&mut`, and each method would owe that it keeps both loans.
 #[tactic(auto, using(crate::proofs::Advancing::shorter))]
 pub fn step<S: Store>(
     warehouse: &mut Warehouse<S>,

@@ -1,26 +1,15 @@
-// From one command to its line.
+// The commands of a load.
 ghost use Rattle.std.specs.Prelude.{◌≡◌, Some, Err};
 ghost use Rattle.warehouse.specs.View.{known};
-ghost use Rattle.feed.specs.Step.{told, Begun, Filled, Finished, GivenUp, out_of_sequence, refused};
+ghost use Rattle.feed.specs.Step.{Begun, Filled, Finished, GivenUp, out_of_sequence, refused};
 
 use crate::fault::{Cause, FeedFault};
+use crate::obeyed::Reply;
 use loads::loading::begin;
 use loads::open::{OpenLoad, RefusedLoad};
 use store::interface::Store;
-use warehouse::fault::Refusal;
 use warehouse::record::Warehouse;
 use wire::line::Line;
-
-// What a command prints, if anything, or why it is refused.
-pub(crate) type Reply = Result<Option<Line>, FeedFault>;
-
-// The line of an answer, or its refusal with the offset.
-pub(crate) fn told(answer: Result<Line, Refusal>, offset: u64) -> Reply
-    ensures { result ≡ told (λ line. line) offset answer }
-{
-    let line = answer.map_err(|refusal| (refusal, offset))?;
-    Ok(Some(line))
-}
 
 fn out_of_sequence(offset: u64) -> FeedFault
     ensures { result ≡ out_of_sequence offset }

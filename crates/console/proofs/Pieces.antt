@@ -119,7 +119,7 @@ module _ {s s' s'' : State} {G G' K K' K'' : List ℕ → Type 0} {o : ℕ} {hel
       }
 
 -- what playing the piece that was just read answered: s at first, s' before it and s'' after it
-module _ {O E : Type 0} (sink : Ghosts O E) (k k' k'' : O) (s s' s'' : State) {G G' G'' : List ℕ → Type 0} (o : ℕ) (held held' bs : List ℕ) (n : ℕ) (r : Result (Option ℕ) E)
+module _ {O E : Type 0} (sink : Ghosts O E) (k k' k'' : O) {s s' s'' : State} {G G' G'' : List ℕ → Type 0} {o : ℕ} {held held' bs : List ℕ} {n : ℕ} (r : Result (Option ℕ) E)
     (p : Pumped s G G' (sink.took k) (sink.took k') s' o held) (b : Brought G' G'' held held' n) (same : bs ≡ held') (q : Plays s' o bs (eqb n 0) sink k' k'' r s'') where
   plays_on : (used : ℕ) → r ≡ Ok (Some used) → PlaysOn s' o held' (eqb n 0) (sink.took k') (sink.took k'') used s''
   plays_on used e = subst (λ xs. Plays s' o xs (eqb n 0) sink k' k'' (Ok (Some used)) s'') same (subst (λ y. Plays s' o bs (eqb n 0) sink k' k'' y s'') e q)

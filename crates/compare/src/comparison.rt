@@ -1,5 +1,7 @@
 // What a comparison of two warehouses finds.
-#[derive(Clone, Copy)]
+use std::fmt;
+
+#[derive(Clone, Copy, PartialEq, Eq, Debug)]
 pub enum Comparison {
     // their stores have not equally many bands
     Bands,
@@ -7,4 +9,14 @@ pub enum Comparison {
     Differ(u32),
     // they share every cell
     Alike,
+}
+
+impl fmt::Display for Comparison {
+    fn fmt<W: fmt::Write>(&self, f: &mut fmt::Formatter<W>) -> fmt::Result {
+        match self {
+            Comparison::Bands => write!(f, "the two stores have not equally many bands"),
+            Comparison::Differ(cell) => write!(f, "the two warehouses differ first in cell {cell}"),
+            Comparison::Alike => write!(f, "the two warehouses share every cell"),
+        }
+    }
 }

@@ -23,15 +23,14 @@ as_rest r bs rest c e =
     elim (cases_lt (length bs) (1 + r.width)) [
       | inl lt ↦
           let short : decoded_as r bs ≡ Err Cut = cond-true (ltb (length bs) (1 + r.width)) _ _ (lt-ltb _ _ lt) in
-          let z : ◌≡◌ {A = ℕ} 0 1 = cc in
-          absurd (omega arith)
+          absurd cc
       | inr le ↦
           let whole : decoded_as r bs ≡ Ok (r.command bs, drop (1 + r.width) bs) = cond-false (ltb (length bs) (1 + r.width)) _ _ (le-ltb _ _ le) in
           (1 + r.width, (omega arith, le, ap rest_of (sym e ∙ whole)))
     ]
 
 by_rest : (rs : List Row) (bs rest : List ℕ) (c : Command) → decoded_by rs bs ≡ Ok (c, rest) → GoesOn bs rest
-by_rest [] bs rest c e = absurd (let z : ◌≡◌ {A = ℕ} 0 1 = cc in omega arith)
+by_rest [] bs rest c e = absurd cc
 by_rest (r ∷ rs) bs rest c e =
     elim (cases_eq (get_or bs 0 0) r.letter) [
       | inl q ↦ as_rest r bs rest c (sym (cond-true (eqb (get_or bs 0 0) r.letter) (decoded_as r bs) (decoded_by rs bs) (eq-eqb _ _ q)) ∙ e)
@@ -43,7 +42,7 @@ goes_on bs rest c e =
     elim (cases_eq (length bs) 0) [
       | inl q ↦
           let none : decoded bs ≡ Err Cut = cond-true (eqb (length bs) 0) _ _ (eq-eqb _ _ q) in
-          absurd (let z : ◌≡◌ {A = ℕ} 0 1 = cc in omega arith)
+          absurd cc
       | inr ne ↦ by_rest commands bs rest c (sym (cond-false (eqb (length bs) 0) (Err Cut) (decoded_by commands bs) (ne_eqb _ _ ne)) ∙ e)
     ]
 

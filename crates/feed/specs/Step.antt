@@ -44,14 +44,9 @@ abbrev pub out_of_sequence : ℕ → FeedFault
 out_of_sequence o = record { cause = Sequence; offset = o }
 
 -- an answer as its line, or a refusal
-abbrev pub told : {X : Type 0} → (X → Line) → ℕ → Result X Refusal → Result Line FeedFault
-told say o (Ok x) = Ok (say x)
+abbrev pub told : {X : Type 0} → (X → Line) → ℕ → Result X Refusal → Reply
+told say o (Ok x) = Ok (Some (say x))
 told say o (Err e) = Err (refused e o)
-
--- a line that is always printed
-abbrev pub printed : Result Line FeedFault → Reply
-printed (Ok l) = Ok (Some l)
-printed (Err f) = Err f
 
 abbrev pub point_line : Reading → Line
 point_line r = line.Point r.value r.cells
@@ -63,11 +58,11 @@ abbrev pub mean_line : Reading → Line
 mean_line r = line.Mean r.value r.cells
 
 -- a point addition, by the answer of the warehouse
-abbrev pub Adds : View → ℕ → ℤ → ℕ → Result Line FeedFault → View → Type 0
+abbrev pub Adds : View → ℕ → ℤ → ℕ → Reply → View → Type 0
 Adds v i x o r v' = (q : Result ℕ Refusal) × AddsPoint v i x q v' × (r ≡ told line.Added o q)
 
 -- a growth, by the answer of the warehouse
-abbrev pub Raises : View → ℕ → Result Line FeedFault → View → Type 0
+abbrev pub Raises : View → ℕ → Reply → View → Type 0
 Raises v o r v' = (q : Result ℕ Refusal) × Growth v q v' × (r ≡ told line.Grown o q)
 
 -- the load after each of its calls
@@ -94,7 +89,7 @@ counted o (Err e) = Err (refused e.refusal o)
 
 abbrev pub Begun : ℕ → Option OpenLoad → ℕ → ℕ → ℕ → Option OpenLoad → Reply → Type 0
 Begun n (Some l) m p o l' r = (l' ≡ Some l) × (r ≡ Err (out_of_sequence o))
-Begun n None m p o l' r = (q : Result OpenLoad Refusal) × Begins n m p q × (l' ≡ begun q) × (r ≡ printed (told (λ _. line.Begun) o q))
+Begun n None m p o l' r = (q : Result OpenLoad Refusal) × Begins n m p q × (l' ≡ begun q) × (r ≡ told (λ _. line.Begun) o q)
 
 abbrev pub Filled : Option OpenLoad → List ℤ → ℤ → ℕ → Option OpenLoad → Reply → List ℤ → Type 0
 Filled None zs x o l' r zs' = (l' ≡ None) × (r ≡ Err (out_of_sequence o)) × (zs' ≡ zs)
@@ -114,11 +109,11 @@ Obeys v l zs (Begin m p) o l' r zs' v' = Begun v.size l m p o l' r × (zs' ≡ z
 Obeys v l zs (Value x) o l' r zs' v' = Filled l zs x o l' r zs' × (v' ≡ v)
 Obeys v l zs Finish o l' r zs' v' = Finished v l zs o l' r v' × (zs' ≡ zs)
 Obeys v l zs GiveUp o l' r zs' v' = GivenUp l o l' r × (zs' ≡ zs) × (v' ≡ v)
-Obeys v l zs (Add i x) o l' r zs' v' = ((q : Result Line FeedFault) × Adds v i x o q v' × (r ≡ printed q)) × (l' ≡ l) × (zs' ≡ zs)
-Obeys v l zs (Point i) o l' r zs' v' = (r ≡ printed (told point_line o (point_answer v i))) × (l' ≡ l) × (zs' ≡ zs) × (v' ≡ v)
-Obeys v l zs (Sum a b) o l' r zs' v' = (r ≡ printed (told sum_line o (sum_answer v a b))) × (l' ≡ l) × (zs' ≡ zs) × (v' ≡ v)
-Obeys v l zs (Mean a b) o l' r zs' v' = (r ≡ printed (told mean_line o (mean_answer v a b))) × (l' ≡ l) × (zs' ≡ zs) × (v' ≡ v)
-Obeys v l zs Grow o l' r zs' v' = ((q : Result Line FeedFault) × Raises v o q v' × (r ≡ printed q)) × (l' ≡ l) × (zs' ≡ zs)
+Obeys v l zs (Add i x) o l' r zs' v' = Adds v i x o r v' × (l' ≡ l) × (zs' ≡ zs)
+Obeys v l zs (Point i) o l' r zs' v' = (r ≡ told point_line o (point_answer v i)) × (l' ≡ l) × (zs' ≡ zs) × (v' ≡ v)
+Obeys v l zs (Sum a b) o l' r zs' v' = (r ≡ told sum_line o (sum_answer v a b)) × (l' ≡ l) × (zs' ≡ zs) × (v' ≡ v)
+Obeys v l zs (Mean a b) o l' r zs' v' = (r ≡ told mean_line o (mean_answer v a b)) × (l' ≡ l) × (zs' ≡ zs) × (v' ≡ v)
+Obeys v l zs Grow o l' r zs' v' = Raises v o r v' × (l' ≡ l) × (zs' ≡ zs)
 
 -- a byte that is no command, and missing operands, end the feed
 abbrev pub after_fault : FeedFault → Cause → ℕ → Outcome

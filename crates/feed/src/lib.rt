@@ -2,7 +2,6 @@
 #![tactic(auto)]
 
 pub mod fault;
-pub mod numbers;
+mod load;
 pub mod obeyed;
 pub mod run;
-mod step;

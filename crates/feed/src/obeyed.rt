@@ -1,5 +1,9 @@
-// What an obeyed command leads to, where the feed goes on.
+// What an obeyed command prints, and where the feed goes on after it.
+use crate::fault::FeedFault;
 use wire::line::Line;
+
+// Its line, if it prints one, or why it is refused.
+pub(crate) type Reply = Result<Option<Line>, FeedFault>;
 
 #[derive(Clone, Copy)]
 pub struct Obeyed {

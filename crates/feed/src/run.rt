@@ -1,29 +1,28 @@
 // One command of the feed: decoded, obeyed, answered.
 ghost use Rattle.std.specs.Prelude.{◌≡◌};
 ghost use Rattle.warehouse.specs.View.{known};
-ghost use Rattle.feed.specs.Step.{printed, after, Obeys, Steps, ending};
+ghost use Rattle.feed.specs.Step.{told, after, Obeys, Steps, ending};
 
 use crate::fault::{Cause, FeedFault};
-use crate::obeyed::Obeyed;
-use crate::step::{
-    add, ask_mean, ask_point, ask_sum, begin_load, finish_load, give_up_load, raise, take_value,
-};
+use crate::load::{begin_load, finish_load, give_up_load, take_value};
+use crate::obeyed::{Obeyed, Reply};
+use loads::growth::grow;
 use loads::open::OpenLoad;
+use loads::point::add_point;
 use std::ops::ControlFlow;
 use store::interface::Store;
+use warehouse::fault::Refusal;
 use warehouse::record::Warehouse;
 use wire::command::Command;
 use wire::decode::decode;
 use wire::line::Line;
 
-// A line that is always printed.
-fn printed(answer: Result<Line, FeedFault>) -> Result<Option<Line>, FeedFault>
-    ensures { result ≡ printed answer }
+// The line of an answer, or its refusal with the offset.
+fn told(answer: Result<Line, Refusal>, offset: u64) -> Reply
+    ensures { result ≡ told (λ line. line) offset answer }
 {
-    match answer {
-        Ok(line) => Ok(Some(line)),
-        Err(fault) => Err(fault),
-    }
+    let line = answer.map_err(|refusal| (refusal, offset))?;
+    Ok(Some(line))
 }
 
 fn obey<S: Store>(
@@ -32,37 +31,53 @@ fn obey<S: Store>(
     buffer: &mut [i64],
     command: Command,
     offset: u64,
-) -> (Option<OpenLoad>, Result<Option<Line>, FeedFault>)
+) -> (Option<OpenLoad>, Reply)
     ensures { Obeys (known S.means warehouse.old) loading buffer.old command offset result.0 result.1 buffer.new (known S.means warehouse.new) }
 {
-    match command {
-        Command::Begin { level, index } => begin_load(warehouse, loading, level, index, offset),
-        Command::Value { value } => take_value(loading, buffer, value, offset),
-        Command::Finish => finish_load(warehouse, loading, buffer, offset),
-        Command::GiveUp => give_up_load(loading, offset),
-        Command::Add { minute, value } => (loading, printed(add(warehouse, minute, value, offset))),
-        Command::Point { minute } => (loading, printed(ask_point(warehouse, minute, offset))),
-        Command::Sum { from, to } => (loading, printed(ask_sum(warehouse, from, to, offset))),
-        Command::Mean { from, to } => (loading, printed(ask_mean(warehouse, from, to, offset))),
-        Command::Grow => (loading, printed(raise(warehouse, offset))),
-    }
+    let answer = match command {
+        Command::Begin { level, index } => {
+            return begin_load(warehouse, loading, level, index, offset);
+        }
+        Command::Value { value } => return take_value(loading, buffer, value, offset),
+        Command::Finish => return finish_load(warehouse, loading, buffer, offset),
+        Command::GiveUp => return give_up_load(loading, offset),
+        Command::Add { minute, value } => {
+            add_point(warehouse, minute, i64::from(value)).map(|cells| Line::Added { cells })
+        }
+        Command::Grow => grow(warehouse).map(|size| Line::Grown { size }),
+        Command::Point { minute } => warehouse.point(minute).map(|reading| Line::Point {
+            value: reading.value,
+            cells: reading.cells,
+        }),
+        Command::Sum { from, to } => warehouse.sum(from, to).map(|reading| Line::Sum {
+            sum: reading.value,
+            cells: reading.cells,
+        }),
+        Command::Mean { from, to } => warehouse.mean(from, to).map(|reading| Line::Mean {
+            mean: reading.value,
+            cells: reading.cells,
+        }),
+    };
+    (loading, told(answer, offset))
 }
 
 // What a reply leads to: an unknown byte and missing operands end the feed.
-fn after(reply: Result<Option<Line>, FeedFault>, width: usize) -> ControlFlow<Line, Obeyed>
+fn after(reply: Reply, width: usize) -> ControlFlow<Line, Obeyed>
     ensures { result ≡ after reply width }
 {
     let line = match reply {
         Ok(line) => line,
         Err(fault) => match fault.cause {
-            Cause::Decode(_) => return ControlFlow::Break(fault.line()),
-            Cause::Sequence | Cause::Warehouse(_) => Some(fault.line()),
+            Cause::Decode(_) => return ControlFlow::Break(Line::from(fault)),
+            Cause::Sequence | Cause::Warehouse(_) => Some(Line::from(fault)),
         },
     };
     ControlFlow::Continue(Obeyed { line, width })
 }
 
 // The command at the front of the bytes, which stands at this offset of the feed.
+// No struct holds the three: a load cannot be put back behind a `&mut`, and each method would owe that it keeps both loans.
+#[tactic(auto, using(crate::proofs::Advancing::shorter))]
 pub fn step<S: Store>(
     warehouse: &mut Warehouse<S>,
     loading: Option<OpenLoad>,
@@ -75,7 +90,7 @@ pub fn step<S: Store>(
     let decoded = decode(bytes);
     let Ok((command, rest)) = decoded else {
         let fault = FeedFault::from((decoded.unwrap_err(), offset));
-        return (loading, ControlFlow::Break(fault.line()));
+        return (loading, ControlFlow::Break(Line::from(fault)));
     };
     let (loading, reply) = obey(warehouse, loading, buffer, command, offset);
     (loading, after(reply, bytes.len() - rest.len()))
@@ -85,7 +100,7 @@ pub fn step<S: Store>(
 pub fn end(loading: Option<OpenLoad>) -> Option<Line>
     ensures { result ≡ ending loading }
 {
-    loading.map(|load| Line::GivenUp {
-        values: load.give_up(),
-    })
+    loading
+        .map(OpenLoad::give_up)
+        .map(|values| Line::GivenUp { values })
 }

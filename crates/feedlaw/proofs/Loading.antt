@@ -1,5 +1,5 @@
 -- The commands of an open load, by the checks and by the calls' contracts.
-use Rattle.std.proofs.Common.{◌≡◌, ℕ, ◌+◌, ◌^◌, Bool, true, false, not, ltb, leb, List, [], ◌∷◌, length, set, ℤ, Some, None, Ok, Err, Option, Result, sym, refl, ap, ◌∙◌, arith}
+use Rattle.std.proofs.Common.{◌≡◌, ℕ, ◌+◌, ◌^◌, Bool, true, false, not, ltb, leb, List, [], ◌∷◌, length, set, ℤ, Some, None, Ok, Err, Option, Result, sym, refl, ap, ◌∙◌}
 use Rattle.std.proofs.lemmas.Bool.{ltb-true, ltb-false, leb-true, leb-false, not-true, not-false, true≢false}
 use Rattle.warehouse.specs.declared.fault.Asked.{Asked}
 use Rattle.warehouse.specs.declared.fault.Fault.{Fault}
@@ -12,7 +12,7 @@ use Rattle.loads.specs.declared.open.OpenLoad.{OpenLoad}
 use Rattle.loads.specs.declared.open.RefusedLoad.{RefusedLoad}
 use Rattle.loads.specs.Opening.{IsOpen, refusing, HandedBack, Begins, Takes, Finishes}
 use Rattle.wire.specs.declared.line.Line.TheVariants as line
-use Rattle.feed.specs.Step.{told, printed, silent, begun, filled, finished, after, on}
+use Rattle.feed.specs.Step.{told, silent, begun, filled, finished, after, on}
 use Rattle.agreement.specs.Call.{wrote}
 use Rattle.agreement.specs.Check.{check, first}
 use Rattle.agreement.specs.Reply.{or_refused, finish_reply}
@@ -35,10 +35,10 @@ module _ (o w : ℕ) where
   -- what a beginning comes to where the checks find f
   pub record Opens (m p : ℕ) (q : Result OpenLoad Refusal) (f : Option Fault) : Type 0 where
     pub load : unless f (opened m p 0) closed ≡ load_of (begun q)
-    pub line : after (printed (told (λ _. line.Begun) o q)) w ≡ on (checked f o (Some line.Begun)) w
+    pub line : after (told (λ _. line.Begun) o q) w ≡ on (checked f o (Some line.Begun)) w
 
   opens_none : (m p : ℕ) (f : Fault) (q : Result OpenLoad Refusal) → q ≡ Err (refusing f m p) → Opens m p q (Some f)
-  opens_none m p f q e = record { load = ap (λ x. load_of (begun x)) (sym e); line = ap (λ x. after (printed (told (λ _. line.Begun) o x)) w) e }
+  opens_none m p f q e = record { load = ap (λ x. load_of (begun x)) (sym e); line = ap (λ x. after (told (λ _. line.Begun) o x) w) e }
 
   opens_one : (m p : ℕ) (q : Result OpenLoad Refusal) → IsOpen q m p 0 → Opens m p q None
   opens_one m p (Ok l) e = record { load = cc (e.level, e.index, e.taken); line = refl }
@@ -81,6 +81,6 @@ module _ (o w : ℕ) where
   pub finishes_load : (a : OpenLoad) (q : Result ℕ RefusedLoad) (f : Option Fault) (asked : Asked) (n : ℕ) → (v v' : View) (zs : List ℤ) → Finishes a v zs q v' → finish_reply q ≡ or_refused f asked (wrote n)
       → unless f closed (opened a.level a.index a.taken) ≡ load_of (finished q)
   finishes_load a (Ok k) None asked n v v' zs s e = refl
-  finishes_load a (Ok k) (Some f) asked n v v' zs s e = absurd (let z : ◌≡◌ {A = ℕ} 0 1 = cc in omega arith)
-  finishes_load a (Err r) None asked n v v' zs s e = absurd (let z : ◌≡◌ {A = ℕ} 0 1 = cc in omega arith)
+  finishes_load a (Ok k) (Some f) asked n v v' zs s e = cc
+  finishes_load a (Err r) None asked n v v' zs s e = cc
   finishes_load a (Err r) (Some f) asked n v v' zs s e = ap (λ (l : OpenLoad). opened l.level l.index l.taken) (sym s.0.load)

@@ -1,81 +1,15 @@
-// From one command to its line.
+// The commands of a load.
 ghost use Rattle.std.specs.Prelude.{◌≡◌, Some, Err};
 ghost use Rattle.warehouse.specs.View.{known};
-ghost use Rattle.warehouse.specs.Ask.{point_answer, sum_answer, mean_answer};
-ghost use Rattle.feed.specs.Step.{told, point_line, sum_line, mean_line, Adds, Raises, Begun, Filled, Finished, GivenUp, out_of_sequence, refused};
+ghost use Rattle.feed.specs.Step.{Begun, Filled, Finished, GivenUp, out_of_sequence, refused};
 
 use crate::fault::{Cause, FeedFault};
-use crate::numbers::placed;
-use loads::growth::grow;
+use crate::obeyed::Reply;
 use loads::loading::begin;
 use loads::open::{OpenLoad, RefusedLoad};
-use loads::point::add_point;
 use store::interface::Store;
 use warehouse::record::Warehouse;
 use wire::line::Line;
-
-pub(crate) fn add<S: Store>(
-    warehouse: &mut Warehouse<S>,
-    minute: u32,
-    value: i32,
-    offset: u64,
-) -> Result<Line, FeedFault>
-    ensures { Adds (known S.means warehouse.old) minute value offset result (known S.means warehouse.new) }
-{
-    let cells = placed(add_point(warehouse, minute, i64::from(value)), offset)?;
-    Ok(Line::Added { cells })
-}
-
-pub(crate) fn raise<S: Store>(warehouse: &mut Warehouse<S>, offset: u64) -> Result<Line, FeedFault>
-    ensures { Raises (known S.means warehouse.old) offset result (known S.means warehouse.new) }
-{
-    let size = placed(grow(warehouse), offset)?;
-    Ok(Line::Grown { size })
-}
-
-pub(crate) fn ask_point<S: Store>(
-    warehouse: &Warehouse<S>,
-    minute: u32,
-    offset: u64,
-) -> Result<Line, FeedFault>
-    ensures { result ≡ told point_line offset (point_answer (known S.means warehouse.now) minute) }
-{
-    let reading = placed(warehouse.point(minute), offset)?;
-    Ok(Line::Point {
-        value: reading.value,
-        cells: reading.cells,
-    })
-}
-
-pub(crate) fn ask_sum<S: Store>(
-    warehouse: &Warehouse<S>,
-    from: u32,
-    to: u32,
-    offset: u64,
-) -> Result<Line, FeedFault>
-    ensures { result ≡ told sum_line offset (sum_answer (known S.means warehouse.now) from to) }
-{
-    let reading = placed(warehouse.sum(from, to), offset)?;
-    Ok(Line::Sum {
-        sum: reading.value,
-        cells: reading.cells,
-    })
-}
-
-pub(crate) fn ask_mean<S: Store>(
-    warehouse: &Warehouse<S>,
-    from: u32,
-    to: u32,
-    offset: u64,
-) -> Result<Line, FeedFault>
-    ensures { result ≡ told mean_line offset (mean_answer (known S.means warehouse.now) from to) }
-{
-    let reading = placed(warehouse.mean(from, to), offset)?;
-    Ok(Line::Mean {
-        mean: reading.value,
-        cells: reading.cells,
-    })
-}
 
 fn out_of_sequence(offset: u64) -> FeedFault
     ensures { result ≡ out_of_sequence offset }
@@ -92,7 +26,7 @@ pub(crate) fn begin_load<S: Store>(
     level: u8,
     index: u32,
     offset: u64,
-) -> (Option<OpenLoad>, Result<Option<Line>, FeedFault>)
+) -> (Option<OpenLoad>, Reply)
     ensures { Begun (known S.means warehouse.now).size loading level index offset result.0 result.1 }
 {
     match loading {
@@ -105,10 +39,7 @@ pub(crate) fn begin_load<S: Store>(
 }
 
 // A refused call hands its load back.
-fn handed_back(
-    back: RefusedLoad,
-    offset: u64,
-) -> (Option<OpenLoad>, Result<Option<Line>, FeedFault>)
+fn handed_back(back: RefusedLoad, offset: u64) -> (Option<OpenLoad>, Reply)
     ensures load { result.0 ≡ Some back.load }
     ensures refusal { result.1 ≡ Err (refused back.refusal offset) }
 {
@@ -121,7 +52,7 @@ pub(crate) fn take_value(
     buffer: &mut [i64],
     value: i32,
     offset: u64,
-) -> (Option<OpenLoad>, Result<Option<Line>, FeedFault>)
+) -> (Option<OpenLoad>, Reply)
     ensures { Filled loading buffer.old value offset result.0 result.1 buffer.new }
 {
     let Some(load) = loading else {
@@ -138,7 +69,7 @@ pub(crate) fn finish_load<S: Store>(
     loading: Option<OpenLoad>,
     buffer: &mut [i64],
     offset: u64,
-) -> (Option<OpenLoad>, Result<Option<Line>, FeedFault>)
+) -> (Option<OpenLoad>, Reply)
     ensures restored { buffer.new ≡ buffer.old }
     ensures finished { Finished (known S.means warehouse.old) loading buffer.old offset result.0 result.1 (known S.means warehouse.new) }
 {
@@ -151,10 +82,7 @@ pub(crate) fn finish_load<S: Store>(
     }
 }
 
-pub(crate) fn give_up_load(
-    loading: Option<OpenLoad>,
-    offset: u64,
-) -> (Option<OpenLoad>, Result<Option<Line>, FeedFault>)
+pub(crate) fn give_up_load(loading: Option<OpenLoad>, offset: u64) -> (Option<OpenLoad>, Reply)
     ensures { GivenUp loading offset result.0 result.1 }
 {
     let Some(load) = loading else {

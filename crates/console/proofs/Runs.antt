@@ -44,7 +44,7 @@ whole v v' l' zs zs' G K K' K'' K''' d last flushed =
 -- an answer by its case, through a change of its error
 pub ok_before : {E F : Type 0} (q : Result Unit E) (r : Result Unit F) → is_ok r ≡ is_ok q → r ≡ Ok tt → q ≡ Ok tt
 ok_before (Ok u) r same e = refl
-ok_before (Err x) r same e = absurd (let b : false ≡ true = sym same ∙ ap is_ok e in cc)
+ok_before (Err x) r same e = absurd (let b = sym same ∙ ap is_ok e in cc)
 
 -- a feed to its end: what the loop over its pieces came to, then the line of an open load, then what the sink held back
 pub resumed : {I O E D : Type 0} (from : source.Ghosts I E) (i i' : I) (to : sink.Ghosts O D) (k a b k' : O) (v v' : View) (l' : Option OpenLoad) (zs zs' : List ℤ)

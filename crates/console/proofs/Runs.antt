@@ -1,5 +1,5 @@
 -- A feed to its end, on a warehouse with any history and on one that is new.
-use Rattle.std.proofs.Common.{◌≡◌, ℕ, false, true, List, [], ◌++◌, ℤ, Some, None, Ok, Err, Option, Result, sym, refl, ap, ◌∙◌, subst, append-nil, arith}
+use Rattle.std.proofs.Common.{◌≡◌, ℕ, List, [], ◌++◌, ℤ, Some, None, Ok, Err, Option, Result, sym, refl, ap, ◌∙◌, subst, append-nil, arith}
 use Rattle.std.specs.Result.{MatchResult, IsErrAnd, is_ok}
 use Rattle.store.specs.Meaning.{Meaning}
 use Rattle.warehouse.specs.Founding.{Founded, cut}

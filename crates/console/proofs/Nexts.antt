@@ -33,7 +33,7 @@ said (Break last) = (Some last, None)
 
 -- a command that was obeyed has the width that the outcome says
 fault_width : (f : FeedFault) (cause : Cause) (k w : ℕ) (l : Option Line) → on l w ≡ after_fault f cause k → w ≡ k
-fault_width f (Decode d) k w l e = absurd (let z : ◌≡◌ {A = ℕ} 0 1 = cc in omega arith)
+fault_width f (Decode d) k w l e = absurd cc
 fault_width f Sequence k w l e = let q = ap (λ x. (said x).1) e in cc
 fault_width f (Warehouse r) k w l e = let q = ap (λ x. (said x).1) e in cc
 
@@ -44,7 +44,7 @@ after_width (Err f) k w l e = fault_width f f.cause k w l e
 -- a command that is not cut short is decoded alike, whatever follows
 more_decoded : (bs more : List ℕ) (c : Command) (rest : List ℕ) → 0 < length bs → decoded bs ≡ Ok (c, rest) → decoded (bs ++ more) ≡ Ok (c, rest ++ more)
 more_decoded bs more c rest h e =
-    ⊎_elim (λ (u : (length bs < 9) × (decoded bs ≡ Err Cut)). absurd (let q = u.1 in let z : ◌≡◌ {A = ℕ} 0 1 = cc in omega arith)) (λ u. u ∙ ap (with_more more) e) (decoded_more bs more h)
+    ⊎_elim (λ (u : (length bs < 9) × (decoded bs ≡ Err Cut)). absurd (let q = u.1 in cc)) (λ u. u ∙ ap (with_more more) e) (decoded_more bs more h)
 
 more_refused : (bs more : List ℕ) (f : DecodeFault) → 0 < length bs → After bs more → decoded bs ≡ Err f → decoded (bs ++ more) ≡ Err f
 more_refused bs more f h a e =
@@ -85,7 +85,7 @@ module _ (v v' : View) (l l' : Option OpenLoad) (zs zs' : List ℤ) (bs : List �
   next_on line w took s = by (decoded bs) refl s
     where
       by : (r : Result (Command × List ℕ) DecodeFault) → decoded bs ≡ r → StepsBy r v l zs bs o l' (on line w) zs' v' → StepsOn (state v l zs) o bs K K' w (state v' l' zs')
-      by (Err f) e s = absurd (let q = s.0 in let z : ◌≡◌ {A = ℕ} 0 1 = cc in omega arith)
+      by (Err f) e s = absurd (let q = s.0 in cc)
       by (Ok (c, rest)) e s = on_went line w took c rest e s
 
   next_end : (last : Line) → ((x : List ℕ) → K x → K' (x ++ text (last ∷ []))) → Steps v l zs bs o l' (Break last) zs' v' → (F : View) (past : History) → Leads F past v → Ended F past (state v l zs) o bs (After bs) K K' (state v' l' zs')
@@ -106,7 +106,7 @@ module _ (v v' : View) (l l' : Option OpenLoad) (zs zs' : List ℤ) (bs : List �
           }
       by (Ok (c, rest)) e s =
           let t = obeyed_right F v v' past l l' zs zs' c o s.0 leads s.1 in
-          absurd (let q = s.2 ∙ t.line (length bs - length rest) in let z : ◌≡◌ {A = ℕ} 0 1 = cc in omega arith)
+          absurd (let q = s.2 ∙ t.line (length bs - length rest) in cc)
 
 -- with what printing answered
 pub printed : {O E : Type 0} (sink : Ghosts O E) (k k' : O) (v v' : View) (l l' : Option OpenLoad) (zs zs' : List ℤ) (bs : List ℕ) (o : ℕ) → 0 < length bs

@@ -10,7 +10,7 @@ use Rattle.console.specs.declared.ends.Sink.{Ghosts}
 use Rattle.console.specs.Playing.{State, to_come, Follows, Ended, PlaysOn, Plays}
 use Rattle.console.specs.Pumping.{Pumped, Drained}
 use Rattle.console.specs.Windows.{Brought}
-use Rattle.console.proofs.Onward.{took_both}
+use Rattle.console.proofs.Onward.{both}
 
 -- before the first piece
 pub pumped_none : (s : State) (G K : List ℕ → Type 0) (held : List ℕ) → held ≡ [] → Pumped s G G K K s 0 held
@@ -64,15 +64,13 @@ module _ {s s' s'' : State} {G G' K K' K'' : List ℕ → Type 0} {o : ℕ} {hel
         many = let n = ap length e in omega (arith, p.many, q.within, length-drop used held);
         went = λ F h leads.
             let a = p.went F h leads in
-            let b = q.went F a.history a.leads in
+            let b = both o held a (q.went F a.history a.leads) (λ more m. tt) (λ more m. tt) in
             record {
               history = b.history;
               leads = b.leads;
-              lines = a.lines ++ b.lines;
-              took = λ w k. flushed _ (took_both K K' K'' a.lines b.lines a.took b.took w k);
-              come = λ more _.
-                  a.come more tt ∙ ap (λ x. a.lines ++ x) (b.come more tt) ∙ sym (append_assoc a.lines b.lines _)
-                  ∙ ap (λ xs. a.lines ++ b.lines ++ to_come F b.history s'' (o + used) (xs ++ more)) (sym e);
+              lines = b.lines;
+              took = λ w k. flushed _ (b.took w k);
+              come = λ more m. b.come more m ∙ ap (λ xs. b.lines ++ to_come F b.history s'' (o + used) (xs ++ more)) (sym e);
             };
       }
 
@@ -85,17 +83,18 @@ module _ {s s' s'' : State} {G G' K K' K'' : List ℕ → Type 0} {o : ℕ} {hel
         ended = λ F h leads.
             let a = p.went F h leads in
             let b = q.went F a.history a.leads in
+            let used-up : drop used held ≡ [] = drop_all used held (let u = q.all refl in omega arith) in
+            let last : Ended F a.history s' o held (λ more. more ≡ []) K' K'' s'' =
             record {
               history = b.history;
               leads = b.leads;
-              lines = a.lines ++ b.lines;
-              took = took_both K K' K'' a.lines b.lines a.took b.took;
+              lines = b.lines;
+              took = b.took;
               come = λ more m.
-                  let used-up : drop used held ≡ [] = drop_all used held (let u = q.all refl in omega arith) in
-                  a.come more tt ∙ ap (λ x. a.lines ++ x) (b.come more m) ∙ sym (append_assoc a.lines b.lines _)
-                  ∙ ap (λ x. a.lines ++ b.lines ++ to_come F b.history s'' (o + used) x) (ap (λ x. x ++ more) used-up ∙ m)
-                  ∙ ap (λ x. a.lines ++ b.lines ++ x) (told_none F.store.bands F.store.room (desk_of F b.history s''.loading s''.values) (o + used));
-            };
+                  b.come more m ∙ ap (λ x. b.lines ++ to_come F b.history s'' (o + used) x) (ap (λ x. x ++ more) used-up ∙ m)
+                  ∙ ap (λ x. b.lines ++ x) (told_none F.store.bands F.store.room (desk_of F b.history s''.loading s''.values) (o + used));
+            } in
+            both o held a last (λ more m. tt) (λ more m. m);
       }
 
   -- the feed ended at a command, whatever bytes come after it
@@ -106,20 +105,18 @@ module _ {s s' s'' : State} {G G' K K' K'' : List ℕ → Type 0} {o : ℕ} {hel
         given = p.given rest g;
         ended = λ F h leads.
             let a = p.went F h leads in
-            let b = end F a.history a.leads in
+            let b = both o held a (end F a.history a.leads) (λ more m. tt) (λ more (e : more ≡ rest). subst (Follows last) (sym e) follows) in
             record {
               history = b.history;
               leads = b.leads;
-              lines = a.lines ++ b.lines;
-              took = took_both K K' K'' a.lines b.lines a.took b.took;
-              come = λ more m.
-                  ap (to_come F h s 0) (ap (λ x. p.bytes ++ rest ++ x) m ∙ append-nil (p.bytes ++ rest))
-                  ∙ a.come rest tt ∙ ap (λ x. a.lines ++ x) (b.come rest follows) ∙ sym (append_assoc a.lines b.lines _);
+              lines = b.lines;
+              took = b.took;
+              come = λ more m. ap (to_come F h s 0) (ap (λ x. p.bytes ++ rest ++ x) m ∙ append-nil (p.bytes ++ rest)) ∙ b.come rest refl;
             };
       }
 
 -- what playing the piece that was just read answered: s at first, s' before it and s'' after it
-module _ {O E : Type 0} (sink : Ghosts O E) (k k' k'' : O) (s s' s'' : State) {G G' G'' : List ℕ → Type 0} (o : ℕ) (held held' bs : List ℕ) (n : ℕ) (r : Result (Option ℕ) E)
+module _ {O E : Type 0} (sink : Ghosts O E) (k k' k'' : O) {s s' s'' : State} {G G' G'' : List ℕ → Type 0} {o : ℕ} {held held' bs : List ℕ} {n : ℕ} (r : Result (Option ℕ) E)
     (p : Pumped s G G' (sink.took k) (sink.took k') s' o held) (b : Brought G' G'' held held' n) (same : bs ≡ held') (q : Plays s' o bs (eqb n 0) sink k' k'' r s'') where
   plays_on : (used : ℕ) → r ≡ Ok (Some used) → PlaysOn s' o held' (eqb n 0) (sink.took k') (sink.took k'') used s''
   plays_on used e = subst (λ xs. Plays s' o xs (eqb n 0) sink k' k'' (Ok (Some used)) s'') same (subst (λ y. Plays s' o bs (eqb n 0) sink k' k'' y s'') e q)

@@ -1,5 +1,5 @@
 -- A feed to its end, on a warehouse with any history and on one that is new.
-use Rattle.std.proofs.Common.{◌≡◌, ℕ, false, true, List, [], ◌++◌, ℤ, Some, None, Ok, Err, Option, Result, sym, refl, ap, ◌∙◌, subst, append-nil, arith}
+use Rattle.std.proofs.Common.{◌≡◌, ℕ, List, [], ◌++◌, ℤ, Some, None, Ok, Err, Option, Result, sym, refl, ap, ◌∙◌, subst, append-nil, arith}
 use Rattle.std.specs.Result.{MatchResult, IsErrAnd, is_ok}
 use Rattle.store.specs.Meaning.{Meaning}
 use Rattle.warehouse.specs.Founding.{Founded, cut}
@@ -44,7 +44,7 @@ whole v v' l' zs zs' G K K' K'' K''' d last flushed =
 -- an answer by its case, through a change of its error
 pub ok_before : {E F : Type 0} (q : Result Unit E) (r : Result Unit F) → is_ok r ≡ is_ok q → r ≡ Ok tt → q ≡ Ok tt
 ok_before (Ok u) r same e = refl
-ok_before (Err x) r same e = absurd (let b : false ≡ true = sym same ∙ ap is_ok e in cc)
+ok_before (Err x) r same e = absurd (let b = sym same ∙ ap is_ok e in cc)
 
 -- a feed to its end: what the loop over its pieces came to, then the line of an open load, then what the sink held back
 pub resumed : {I O E D : Type 0} (from : source.Ghosts I E) (i i' : I) (to : sink.Ghosts O D) (k a b k' : O) (v v' : View) (l' : Option OpenLoad) (zs zs' : List ℤ)

@@ -1,8 +1,9 @@
 -- What playing the bytes of a feed comes to: the lines that the sink took, and those that are still to come.
 --   K, K'         the bytes that the sink may have been given, before and after
 --   Follows       what may come after the bytes at hand: nothing, if they are the last
---   Went          a warehouse with a history went on to a longer one, and the lines of the recount with it
---   Ended         the feed ended, and only the line of an open load is to come
+--   Played        a warehouse with a history went on to a longer one, and the sink took the lines of the recount until there
+--   Went          so, and the rest of the bytes is to come
+--   Ended         so, and the feed ended: only the line of an open load is to come
 --   Nexts, Plays  the same of one command, and of some bytes, to a sink that was k and is k'
 use Rattle.std.specs.Prelude.{◌≡◌, ℕ, ◌+◌, ◌-◌, ◌<◌, ◌≤◌, Bool, true, false, List, [], ◌++◌, length, drop, ℤ, Some, None, Ok, Err, Option, Result}
 use Rattle.warehouse.specs.View.{View}
@@ -30,19 +31,19 @@ state v l zs = record { view = v; loading = l; values = zs }
 abbrev pub to_come : View → History → State → ℕ → List ℕ → List Line
 to_come F h s o bs = told F.store.bands F.store.room (desk_of F h s.loading s.values) o bs
 
-pub record Went (F : View) (h : History) (s : State) (o : ℕ) (bs : List ℕ) (M : List ℕ → Type 0) (K K' : List ℕ → Type 0) (s' : State) (o' : ℕ) (rest : List ℕ) : Type 0 where
+-- `after` is what then is to come, by the history and by what follows the bytes
+pub record Played (F : View) (h : History) (s : State) (o : ℕ) (bs : List ℕ) (M : List ℕ → Type 0) (K K' : List ℕ → Type 0) (s' : State) (after : History → List ℕ → List Line) : Type 0 where
   pub history : History
   pub leads : Leads F history s'.view
   pub lines : List Line
   pub took : (w : List ℕ) → K w → K' (w ++ text lines)
-  pub come : (more : List ℕ) → M more → to_come F h s o (bs ++ more) ≡ lines ++ to_come F history s' o' (rest ++ more)
+  pub come : (more : List ℕ) → M more → to_come F h s o (bs ++ more) ≡ lines ++ after history more
 
-pub record Ended (F : View) (h : History) (s : State) (o : ℕ) (bs : List ℕ) (M : List ℕ → Type 0) (K K' : List ℕ → Type 0) (s' : State) : Type 0 where
-  pub history : History
-  pub leads : Leads F history s'.view
-  pub lines : List Line
-  pub took : (w : List ℕ) → K w → K' (w ++ text lines)
-  pub come : (more : List ℕ) → M more → to_come F h s o (bs ++ more) ≡ lines ++ ending (load_of s'.loading)
+abbrev pub Went : View → History → State → ℕ → List ℕ → (List ℕ → Type 0) → (K K' : List ℕ → Type 0) → State → ℕ → List ℕ → Type 0
+Went F h s o bs M K K' s' o' rest = Played F h s o bs M K K' s' (λ history more. to_come F history s' o' (rest ++ more))
+
+abbrev pub Ended : View → History → State → ℕ → List ℕ → (List ℕ → Type 0) → (K K' : List ℕ → Type 0) → State → Type 0
+Ended F h s o bs M K K' s' = Played F h s o bs M K K' s' (λ history more. ending (load_of s'.loading))
 
 -- what may follow a command: fewer than nine bytes must be the last
 abbrev pub After : List ℕ → List ℕ → Type 0

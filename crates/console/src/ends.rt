@@ -1,4 +1,5 @@
-// Where a feed comes from and where its lines go.
+// Where a feed comes from and where its lines go. Not std's Read and Write: what those give or take is known or not, while
+// these may give and take any bytes of several.
 ghost use Rattle.std.specs.Prelude.{◌≡◌, ℕ, List, ◌++◌, Ok, Err};
 ghost use Rattle.console.specs.Ends.{Reads, Takes, Flushes};
 

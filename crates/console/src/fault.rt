@@ -1,4 +1,6 @@
 // Why a feed is not run to its end.
+ghost use Rattle.console.specs.Faults.{fault_text};
+
 use std::fmt;
 use std::fmt::Display;
 use warehouse::fault::Refusal;
@@ -16,6 +18,8 @@ pub enum RunFault<I, O> {
 }
 
 impl<I: Display, O: Display> Display for RunFault<I, O> {
+    ghost output = { fault_text I.output O.output };
+
     fn fmt<W: fmt::Write>(&self, f: &mut fmt::Formatter<W>) -> fmt::Result {
         match self {
             RunFault::Founding(_) => write!(f, "the store is not empty"),

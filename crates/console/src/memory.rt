@@ -40,7 +40,7 @@ impl Source for Bytes<'_> {
 #[derive(Drop)]
 pub struct Page {
     bytes: Vec<u8>,
-    // the bytes are good either way
+    // no Option round the bytes: they are good either way
     is_full: bool,
 }
 
@@ -88,6 +88,10 @@ impl Sink for Page {
         ensures kept { self.new.bytes.items ≡ self.old.bytes.items }
         ensures same { self.new.is_full ≡ self.old.is_full }
     {
-        if self.is_full { Err(AllocError) } else { Ok(()) }
+        if self.is_full {
+            Err(AllocError)
+        } else {
+            Ok(())
+        }
     }
 }

@@ -24,6 +24,7 @@ pub fn resume<S: Store, I: Source, O: Sink>(
     let (loading, pumped) = pump(warehouse, buffer, source, sink);
     let line = end(loading);
     pumped?;
+    // closures: the variant's bare name gets no proof here, since the fault has the source's error as a parameter too
     print(sink, line).map_err(|error| RunFault::Output(error))?;
     sink.flush().map_err(|error| RunFault::Output(error))
 }

@@ -8,7 +8,7 @@ use std::marker::Model;
 // how many bytes are read at once
 const WIDTH: usize = 4096;
 
-// A source reads into the spare room as a slice, which no vector lends.
+// No ArrayVec: a source reads into the spare room as a slice, which that does not lend.
 #[derive(Drop)]
 pub(crate) struct Window {
     bytes: [u8; WIDTH],

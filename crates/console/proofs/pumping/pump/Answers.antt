@@ -20,21 +20,18 @@ returns-then-is_none g c =
 
 pub returns-in-Ok-None : goal.returns-in-Ok-None
 returns-in-Ok-None g c =
-    drained_over g.O.Sink c.args.sink.now c.pieces.sink c.play-next.new.sink _ _ _ c.pieces.offset c.pieces.window c.fill.new.self c.bytes-bytes.result.now c.in-Ok.many c.play-next.result.1
-    c.pieces.invariant.pumped c.in-Ok.ensures c.bytes-bytes.ensures c.play-next.ensures (search rules)
+    drained_over g.O.Sink c.args.sink.now c.pieces.sink c.play-next.new.sink c.play-next.result.1 c.pieces.invariant.pumped c.in-Ok.ensures c.bytes-bytes.ensures c.play-next.ensures (search rules)
 
 pub returns-then-last : goal.returns-then-last
 returns-then-last g c =
-    drained_last g.O.Sink c.args.sink.now c.pieces.sink c.play-next.new.sink _ _ _ c.pieces.offset c.pieces.window c.fill.new.self c.bytes-bytes.result.now c.in-Ok.many c.play-next.result.1
-    c.pieces.invariant.pumped c.in-Ok.ensures c.bytes-bytes.ensures c.play-next.ensures c.in-Ok-Some.used (search rules) c.if-last.true
+    drained_last g.O.Sink c.args.sink.now c.pieces.sink c.play-next.new.sink c.play-next.result.1 c.pieces.invariant.pumped c.in-Ok.ensures c.bytes-bytes.ensures c.play-next.ensures c.in-Ok-Some.used (search rules) c.if-last.true
 
 pub pieces-preserved : goal.pieces-preserved
 pieces-preserved g c =
     let window = c.fill.new.self in
     let used = c.in-Ok-Some.used in
     let q =
-    piece_played g.O.Sink c.args.sink.now c.pieces.sink c.play-next.new.sink _ _ _ c.pieces.offset c.pieces.window window c.bytes-bytes.result.now c.in-Ok.many c.play-next.result.1
-    c.pieces.invariant.pumped c.in-Ok.ensures c.bytes-bytes.ensures c.play-next.ensures used (search rules) c.if-last.false in
+    piece_played g.O.Sink c.args.sink.now c.pieces.sink c.play-next.new.sink c.play-next.result.1 c.pieces.invariant.pumped c.in-Ok.ensures c.bytes-bytes.ensures c.play-next.ensures used (search rules) c.if-last.false in
     let left = ap length c.drop_front.ensures ∙ length-drop used window in
     let fits : c.pieces.offset + length c.bytes-bytes.result.now < 2 ^ 64 = search rules in
     record {

@@ -10,7 +10,7 @@ invariant-pieces g l =
       few : length l.window < 9;
       fits : l.offset + length l.window < 2 ^ 64;
       pumped : Pumped (state (known g.S.Store.means l.initial.warehouse) None l.initial.buffer) (g.I.Source.gives l.initial.source) (g.I.Source.gives l.source) (g.O.Sink.took l.initial.sink)
-      (g.O.Sink.took l.sink) (state (known g.S.Store.means l.warehouse) l.loading l.buffer) l.offset l.window;
+          (g.O.Sink.took l.sink) (state (known g.S.Store.means l.warehouse) l.loading l.buffer) l.offset l.window;
     }
 
 abbrev pub decreases-pieces : goal.decreases-pieces

@@ -1,16 +1,16 @@
 -- A load that has written its touched cells below `from`.
-use Rattle.std.proofs.Common.{◌≡◌, ℕ, ◌+◌, ◌*◌, ◌<◌, ◌≤◌, ℤ, pos, ◌+ℤ◌, ◌≤ℤ◌, sym, refl, ap, ◌∙◌, subst, ap₂, ⊎_elim, arith, w64, SFits, to_z, of_z}
+use Rattle.std.proofs.Common.{◌≡◌, ℕ, ◌+◌, ◌*◌, ◌<◌, ◌≤◌, ℤ, pos, ◌+ℤ◌, ◌≤ℤ◌, sym, ap, ◌∙◌, subst, ap₂, ⊎_elim, arith, w64, SFits, to_z, of_z}
 use Rattle.std.proofs.lemmas.Int.{ints, to_z-of_z}
 use Rattle.std.proofs.lemmas.Bool.{cases_eq, cases_lt}
 use Rattle.haar.specs.declared.coefficient.Coefficient.{Coefficient}
 use Rattle.haar.specs.Tiles.{cell_number, cell_count}
 use Rattle.haar.specs.Haar.{value}
 use Rattle.haar.specs.Load.{Loaded}
-use Rattle.loads.specs.Reach.{Meets, Found, Past}
+use Rattle.loads.specs.Reach.{Meets, Found}
 use Rattle.haar.proofs.Numbers.{one_coefficient, inside_below}
 use Rattle.store.specs.Meaning.{Meaning, weight, filled, Bars, Put}
 use Rattle.store.proofs.Counting.{put_keeps}
-use Rattle.loads.specs.Loads.{fresh, Small, Clear, Stored}
+use Rattle.loads.specs.Loads.{fresh, Small, Clear}
 use Rattle.loads.proofs.Fresh.{fresh_step, fresh_rises}
 
 pub record Partly (T n m p : ℕ) (g : ℕ → ℤ) (before now : Meaning) (from : ℕ) : Type 0 where
@@ -20,18 +20,6 @@ pub record Partly (T n m p : ℕ) (g : ℕ → ℤ) (before now : Meaning) (from
   pub kept : (c : ℕ) → c < cell_count T → ((s : Coefficient) → Meets n m p s → cell_number T s ≡ c → c < from → ⊥) → now.cells c ≡ before.cells c
   pub room : now.room +ℤ pos (filled now.cells (cell_count T)) ≡ before.room +ℤ pos (filled before.cells (cell_count T))
   pub left : (y : ℕ → ℤ) → Loaded T n m p g before.cells y → before.room ≤ℤ (now.room +ℤ pos (fresh before.cells y from))
-
-pub partly_start : (T n m p : ℕ) (g : ℕ → ℤ) (before : Meaning) → before.bands ≡ T → Partly T n m p g before before 0
-unfolding fresh
-partly_start T n m p g before b =
-    record {
-      bands = b;
-      below = omega arith;
-      added = λ s me l. absurd (omega arith);
-      kept = λ c l no_one. refl;
-      room = refl;
-      left = λ y load. omega (arith, ints);
-    }
 
 small_fits : (z : ℤ) → Small z → SFits w64 z
 small_fits z h = record { sfits = grind (arith, ints) }
@@ -114,14 +102,3 @@ module _ (T n m p : ℕ) (g : ℕ → ℤ) (some : 1 ≤ T) (held : n ≤ 4 * T)
             let l = part.left y load in
             let r = put.room in
             omega (arith, ints)
-
-  pub partly_end : before.bands ≡ T → Past T n m p from → Stored T n m p g before now
-  partly_end b past =
-      record {
-        bands = part.bands ∙ sym b;
-        loaded = record {
-          added = λ s i t. let me : Meets n m p s = record { inside = i; touched = t } in part.added s me (past s me);
-          kept = λ c l no_one. part.kept c l (λ s me e a. no_one s me.inside me.touched e);
-        };
-        room = part.room;
-      }

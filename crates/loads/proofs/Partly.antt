@@ -6,11 +6,11 @@ use Rattle.haar.specs.declared.coefficient.Coefficient.{Coefficient}
 use Rattle.haar.specs.Tiles.{cell_number, cell_count}
 use Rattle.haar.specs.Haar.{value}
 use Rattle.haar.specs.Load.{Loaded}
-use Rattle.loads.specs.Reach.{Meets, Found}
+use Rattle.loads.specs.Reach.{Meets, Found, Past}
 use Rattle.haar.proofs.Numbers.{one_coefficient, inside_below}
 use Rattle.store.specs.Meaning.{Meaning, weight, filled, Bars, Put}
 use Rattle.store.proofs.Counting.{put_keeps}
-use Rattle.loads.specs.Loads.{fresh, Small, Clear}
+use Rattle.loads.specs.Loads.{fresh, Small, Clear, Stored}
 use Rattle.loads.proofs.Fresh.{fresh_step, fresh_rises}
 
 pub record Partly (T n m p : ℕ) (g : ℕ → ℤ) (before now : Meaning) (from : ℕ) : Type 0 where
@@ -102,3 +102,14 @@ module _ (T n m p : ℕ) (g : ℕ → ℤ) (some : 1 ≤ T) (held : n ≤ 4 * T)
             let l = part.left y load in
             let r = put.room in
             omega (arith, ints)
+
+  pub partly_end : before.bands ≡ T → Past T n m p from → Stored T n m p g before now
+  partly_end b past =
+      record {
+        bands = part.bands ∙ sym b;
+        loaded = record {
+          added = λ s i t. let me : Meets n m p s = record { inside = i; touched = t } in part.added s me (past s me);
+          kept = λ c l no_one. part.kept c l (λ s me e a. no_one s me.inside me.touched e);
+        };
+        room = part.room;
+      }

@@ -5,7 +5,7 @@ use Rattle.haar.specs.Haar.{value}
 use Rattle.loads.specs.Share.{told}
 use Rattle.loads.specs.Reach.{Found}
 use Rattle.loads.proofs.Splits.{minutes_chunk}
-use Rattle.loads.proofs.Partly.{cell_in, cell_open, sum_fits, new_is, partly_step}
+use Rattle.loads.proofs.Partly.{cell_in, cell_open, sum_fits, new_is, partly_step, partly_end}
 use Rattle.loads.proofs.cells.write_cells.Goals as goal
 use Rattle.loads.proofs.cells.write_cells.Goals.{In-Some, After-share-share}
 
@@ -54,3 +54,8 @@ loop-touch-preserved g c =
       s.0 ∙ c.loop-touch.invariant.0,
       rw s.1.1 (partly_step _ _ _ _ _ r.some r.held _ _ _ c.loop-touch.invariant.1 _ _ (found g a.In-Some) _ _ (new g a.After-share-share) c.put.ensures),
     )
+
+pub returns : goal.returns
+returns g c =
+    let r = c.args.chunk.now.reach in
+    partly_end _ _ _ _ _ r.some r.held _ _ _ c.loop-touch.invariant.1 c.requires.bands (rw c.loop-touch.invariant.0 at c.in-None.ensures.steps.1)

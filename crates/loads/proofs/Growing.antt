@@ -1,26 +1,16 @@
 -- The cells of a growth, and writing the total to them.
-use Rattle.std.proofs.Common.{◌≡◌, ℕ, suc, ◌+◌, ◌-◌, ◌*◌, ◌/◌, ◌^◌, ◌<◌, ◌≤◌, Bool, true, false, cond, ℤ, pos, ◌+ℤ◌, ◌≤ℤ◌, Some, None, Option, sym, refl, ap, ◌∙◌, subst, ap₂, inl, inr, ⊎_elim, ◌⊎◌, arith, pow_pos}
-use native.Mathlib.Nat.{zero-div}
+use Rattle.std.proofs.Common.{◌≡◌, ℕ, suc, ◌+◌, ◌-◌, ◌*◌, ◌/◌, ◌<◌, Bool, true, false, cond, ℤ, pos, ◌+ℤ◌, ◌≤ℤ◌, Some, None, Option, sym, refl, ap, ◌∙◌, subst, inl, inr, ⊎_elim, ◌⊎◌, arith, pow_pos}
 use Rattle.std.proofs.lemmas.Int.{ints}
 use Rattle.std.proofs.lemmas.Bool.{cases_eq}
 use Rattle.std.proofs.lemmas.Bool.Decides.{nat_tests}
 use Rattle.haar.specs.declared.coefficient.Coefficient.TheVariants.{TileSum, Difference}
-use Rattle.haar.specs.Tiles.{cell_number, cell_count, Inside}
+use Rattle.haar.specs.Tiles.{cell_count, Inside}
 use Rattle.haar.specs.Count.{bands_in_use}
 use Rattle.haar.specs.Growth.{Fills}
-use Rattle.haar.specs.Places.{InTree}
 use Rattle.haar.proofs.Numbers.{one_coefficient, inside_below}
 use Rattle.store.specs.Meaning.{Meaning, weight, filled, Bars, Put}
 use Rattle.store.proofs.Counting.{put_keeps}
 use Rattle.loads.specs.Growing.{total_cell, top_cell, tile_cell, fills, newly, Topped}
-
--- interval (j,0) of a level that the bands have
-pub in_tree : (T j : ℕ) → T ≤ 5 → j ≤ 4 * T → InTree T j 0
-in_tree T j f l = record { few = f; low = l; inside = pow_pos (4 * T - j) }
-
--- the tile from which S(j,0) is read
-pub tile_over : (T j t : ℕ) → t ≡ (j - 1) / 4 → cell_number T (TileSum ((j - 1) / 4) (0 / 2 ^ (4 * ((j - 1) / 4) + 4 - j))) ≡ cell_number T (TileSum t 0)
-tile_over T j t e = ap₂ (λ a b. cell_number T (TileSum a b)) (sym e) (zero-div _)
 
 module _ (T n : ℕ) (below : n < 4 * T) where
   total_inside : Inside n (TileSum (bands_in_use n - 1) 0)

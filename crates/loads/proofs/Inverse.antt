@@ -1,8 +1,8 @@
-use Rattle.std.proofs.Common.{◌≡◌, ℕ, zero, suc, ◌+◌, ◌-◌, ◌*◌, ◌/◌, ◌^◌, ◌<◌, ◌≤◌, ◌≢◌, List, [], ◌++◌, length, get_or, take, drop, set, ℤ, pos, negsuc, ◌+ℤ◌, ◌-ℤ◌, neg_ℤ, sym, refl, ap, ◌∙◌, subst, inl, inr, mul_assoc, add-one, arith, pow_pos, pow-add}
+use Rattle.std.proofs.Common.{◌≡◌, ℕ, zero, suc, ◌+◌, ◌-◌, ◌*◌, ◌/◌, ◌^◌, ◌<◌, ◌≤◌, ◌≢◌, List, ◌++◌, length, get_or, take, drop, set, ℤ, pos, negsuc, ◌+ℤ◌, ◌-ℤ◌, neg_ℤ, sym, refl, ap, ◌∙◌, subst, inl, inr, mul_assoc, add-one, arith, pow_pos, pow_mono, pow-add}
 use lib.Signed.{quot_z}
 use Rattle.std.proofs.lemmas.Bool.Decides.{eqb_tells, leb_tells}
 use Rattle.std.proofs.lemmas.Int.{ints}
-use Rattle.std.proofs.lemmas.List.{ext_get_or, append-nil, length-set, length-take-le, length-drop, length-append, get_or-set_same, get_or-set_other, get_or-take, get_or-drop, get_or_append_left, get_or-append_right, drop_all, take_rest, take-append-drop}
+use Rattle.std.proofs.lemmas.List.{ext_get_or, length-set, length-take-le, length-drop, length-append, get_or-set_same, get_or-set_other, get_or-take, get_or-drop, get_or_append_left, get_or-append_right, take-append-drop}
 use lib.Seq.{take-append_seam, drop-append_seam}
 use Rattle.loads.specs.Transform.{joined, parted, haar, unhaar, Near, Within}
 
@@ -13,21 +13,6 @@ front h xs ys e = subst (λ (n : ℕ). take n (xs ++ ys) ≡ xs) e (take-append_
 
 pub rear : (h : ℕ) (xs ys : List ℤ) → length xs ≡ h → drop h (xs ++ ys) ≡ ys
 rear h xs ys e = subst (λ (n : ℕ). drop n (xs ++ ys) ≡ ys) e (drop-append_seam xs ys)
-
--- the second part, after the first came back
-pub second : (zs r : List ℤ) (h k : ℕ) → k ≡ h → length r ≡ h → take (length (r ++ drop k zs) - h) (drop h (r ++ drop k zs)) ≡ drop h zs
-second zs r h k e l = take_rest (r ++ drop k zs) h ∙ rear h r (drop k zs) l ∙ ap (λ (n : ℕ). drop n zs) e
-
--- both parts back
-pub both : (zs r s : List ℤ) (h k : ℕ) → length r ≡ h
-    → take h (r ++ drop k zs) ++ (s ++ drop (length (r ++ drop k zs) - h) (drop h (r ++ drop k zs))) ≡ r ++ s
-both zs r s h k l =
-    let none : drop (length (r ++ drop k zs) - h) (drop h (r ++ drop k zs)) ≡ [] = drop_all _ (drop h (r ++ drop k zs)) (omega (arith, length-drop h (r ++ drop k zs))) in
-    ap (λ (x : List ℤ). x ++ (s ++ drop (length (r ++ drop k zs) - h) (drop h (r ++ drop k zs)))) (front h r (drop k zs) l)
-    ∙ ap (λ (x : List ℤ). r ++ (s ++ x)) none ∙ ap (λ (x : List ℤ). r ++ x) (append-nil s)
-
-pub half : (n l : ℕ) → l ≡ 2 ^ (n + 1) → l / 2 ≡ 2 ^ n
-half n l e = let p : 2 ^ (n + 1) ≡ 2 ^ n * 2 = pow-add 2 n 1 in omega arith
 
 -- ---- bounds
 
@@ -213,3 +198,50 @@ restore_step n h zs ps r s e ep er es =
     ap (λ (x : List ℤ). x ++ s) er ∙ ap (λ (x : List ℤ). unhaar n (take h ps) ++ x) es
     ∙ ap (λ (x : List ℤ). unhaar n (take h x) ++ unhaar n (drop h x)) ep
     ∙ ap (λ (x : ℕ). unhaar n (take x (parted x zs)) ++ unhaar n (drop x (parted x zs))) e
+
+-- ---- a buffer and its halves
+
+module _ (m h : ℕ) (zs : List ℤ) (ne : m ≡ 0 → ⊥) (l : length zs ≡ 2 ^ m) (e : h ≡ length zs / 2) where
+  up : m - 1 + 1 ≡ m
+  up = omega arith
+
+  twice : length zs ≡ 2 ^ (m - 1) * 2
+  twice = l ∙ ap (λ (k : ℕ). 2 ^ k) (sym up) ∙ pow-add 2 (m - 1) 1
+
+  is_half : h ≡ 2 ^ (m - 1)
+  is_half = omega (arith, twice)
+
+  pub between : (0 < h) × (h < length zs)
+  between = (omega (arith, is_half, pow_pos (m - 1)), omega (arith, twice, is_half, pow_pos (m - 1)))
+
+  pub low_half : (b : ℕ) (lo : List ℤ) → Within b zs → lo ≡ take h zs → (length lo ≡ 2 ^ (m - 1)) × Within b lo
+  low_half b lo w f =
+      let hl : h ≤ length zs = omega (arith, between.1) in
+      (ap length f ∙ length-take-le h zs hl ∙ is_half, subst (Within b) (sym f) (within_take b h zs hl w))
+
+  pub high_half : (b : ℕ) (hi : List ℤ) → Within b zs → hi ≡ drop h zs → (length hi ≡ 2 ^ (m - 1)) × Within b hi
+  high_half b hi w f = (ap length f ∙ length-drop h zs ∙ omega (arith, twice, is_half), subst (Within b) (sym f) (within_drop b h zs w))
+
+  module _ (lo hi lo' hi' : List ℤ) (f : lo ≡ take h zs) (g : hi ≡ drop h zs) (f' : lo' ≡ haar (m - 1) lo) (g' : hi' ≡ haar (m - 1) hi) where
+    pub joined_haar : joined h (lo' ++ hi') ≡ haar m zs
+    joined_haar =
+        transform_step (m - 1) h zs lo' hi' is_half (f' ∙ ap (λ (x : List ℤ). haar (m - 1) x) f) (g' ∙ ap (λ (x : List ℤ). haar (m - 1) x) g)
+        ∙ ap (λ (k : ℕ). haar k zs) (sym (add-one (m - 1)) ∙ up)
+
+    pub joinable : m ≤ 12 → Within (2 ^ 31) zs → (0 < h) × ((h < length (lo' ++ hi')) × Within (2 ^ 61) (lo' ++ hi'))
+    joinable k w =
+        let a = low_half (2 ^ 31) lo w f in
+        let b = high_half (2 ^ 31) hi w g in
+        let la : length lo' ≡ 2 ^ (m - 1) = ap length f' ∙ length_haar (m - 1) lo a.0 in
+        let lb : length hi' ≡ 2 ^ (m - 1) = ap length g' ∙ length_haar (m - 1) hi b.0 in
+        let wa : Within (2 ^ 31 * 2 ^ (m - 1)) lo' = subst (Within (2 ^ 31 * 2 ^ (m - 1))) (sym f') (within_haar (m - 1) (2 ^ 31) lo a.0 a.1) in
+        let wb : Within (2 ^ 31 * 2 ^ (m - 1)) hi' = subst (Within (2 ^ 31 * 2 ^ (m - 1))) (sym g') (within_haar (m - 1) (2 ^ 31) hi b.0 b.1) in
+        let big : 2 ^ (m - 1) ≤ 2 ^ 12 = pow_mono {j = 12} (omega arith) in
+        let pp = pow_pos (m - 1) in
+        let lab = length-append lo' hi' in
+        (between.0, (omega (arith, is_half), within_more (2 ^ 31 * 2 ^ (m - 1)) (2 ^ 61) (lo' ++ hi') (omega arith) (within_append (2 ^ 31 * 2 ^ (m - 1)) lo' hi' wa wb)))
+
+  pub parted_unhaar : (ps lo hi lo' hi' : List ℤ) → ps ≡ parted h zs → lo ≡ take h ps → hi ≡ drop h ps → lo' ≡ unhaar (m - 1) lo → hi' ≡ unhaar (m - 1) hi → lo' ++ hi' ≡ unhaar m zs
+  parted_unhaar ps lo hi lo' hi' d f g f' g' =
+      restore_step (m - 1) h zs ps lo' hi' is_half d (f' ∙ ap (λ (x : List ℤ). unhaar (m - 1) x) f) (g' ∙ ap (λ (x : List ℤ). unhaar (m - 1) x) g)
+      ∙ ap (λ (k : ℕ). unhaar k zs) (sym (add-one (m - 1)) ∙ up)

@@ -146,11 +146,6 @@ band_order T n m p s s' a h me me' lt =
     let r = rising tiles_before before_rises (T - band s) (T - 1 - band s') (omega arith) in
     omega arith
 
--- a touched coefficient's band is in use
-pub band_used : (n m p : ℕ) (s : Coefficient) → Meets n m p s → band s < bands_in_use n
-band_used n m p (TileSum t k) h = omega (arith, h.inside)
-band_used n m p (Difference j k) h = omega (arith, h.inside)
-
 -- what a band has first, where the bands above have nothing
 pub first_of : (T n m p t from cell : ℕ) (s : Coefficient) → 1 ≤ T → n ≤ 4 * T → FoundIn T n m p t from s cell → ((s' : Coefficient) → Meets n m p s' → suc t ≤ band s' → cell_number T s' < from) → Found T n m p from s cell
 first_of T n m p t from cell s a h f none =

@@ -1,5 +1,5 @@
 -- A load that has written its touched cells below `from`.
-use Rattle.std.proofs.Common.{◌≡◌, ℕ, ◌+◌, ◌*◌, ◌<◌, ◌≤◌, ℤ, pos, ◌+ℤ◌, ◌≤ℤ◌, sym, refl, ap, ◌∙◌, subst, ap₂, ⊎_elim, arith, w64, SFits, to_z, of_z}
+use Rattle.std.proofs.Common.{◌≡◌, ℕ, ◌+◌, ◌*◌, ◌<◌, ◌≤◌, ℤ, pos, ◌+ℤ◌, ◌≤ℤ◌, sym, ap, ◌∙◌, subst, ap₂, ⊎_elim, arith, w64, SFits, to_z, of_z}
 use Rattle.std.proofs.lemmas.Int.{ints, to_z-of_z}
 use Rattle.std.proofs.lemmas.Bool.{cases_eq, cases_lt}
 use Rattle.haar.specs.declared.coefficient.Coefficient.{Coefficient}
@@ -20,18 +20,6 @@ pub record Partly (T n m p : ℕ) (g : ℕ → ℤ) (before now : Meaning) (from
   pub kept : (c : ℕ) → c < cell_count T → ((s : Coefficient) → Meets n m p s → cell_number T s ≡ c → c < from → ⊥) → now.cells c ≡ before.cells c
   pub room : now.room +ℤ pos (filled now.cells (cell_count T)) ≡ before.room +ℤ pos (filled before.cells (cell_count T))
   pub left : (y : ℕ → ℤ) → Loaded T n m p g before.cells y → before.room ≤ℤ (now.room +ℤ pos (fresh before.cells y from))
-
-pub partly_start : (T n m p : ℕ) (g : ℕ → ℤ) (before : Meaning) → before.bands ≡ T → Partly T n m p g before before 0
-unfolding fresh
-partly_start T n m p g before b =
-    record {
-      bands = b;
-      below = omega arith;
-      added = λ s me l. absurd (omega arith);
-      kept = λ c l no_one. refl;
-      room = refl;
-      left = λ y load. omega (arith, ints);
-    }
 
 small_fits : (z : ℤ) → Small z → SFits w64 z
 small_fits z h = record { sfits = grind (arith, ints) }

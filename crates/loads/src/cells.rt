@@ -19,7 +19,7 @@ pub(crate) fn is_small(number: i64) -> bool
     number.unsigned_abs() <= LIMIT
 }
 
-// the number in a cell that the store has.
+// the number in a cell that the store has
 pub(crate) fn number_in<S: Store>(store: &S, cell: u32) -> i64
     requires { cell < cell_count (S.means store.now).bands }
     ensures { result ≡ (S.means store.now).cells cell }
@@ -27,7 +27,7 @@ pub(crate) fn number_in<S: Store>(store: &S, cell: u32) -> i64
     store.read(cell).unwrap_or(0)
 }
 
-// a number into a cell that the store has, where there is room for it.
+// a number into a cell that the store has, where there is room for it
 pub(crate) fn put<S: Store>(store: &mut S, cell: u32, number: i64)
     requires inside { cell < cell_count (S.means store.old).bands }
     requires free { Bars (S.means store.old) cell number → ⊥ }

@@ -47,6 +47,7 @@ impl GrowthCells {
         ensures { result ≡ newly self.bands self.size total (S.means store.now).cells }
     {
         let top = starts(number_in(store, self.top), total);
+        // by match: for map_or the proof did not close that the closure's cell is the store's
         match self.tile {
             Some(tile) => top + starts(number_in(store, tile), total),
             None => top,

@@ -97,13 +97,12 @@ impl OpenLoad {
     pub fn give_up(self) -> u32
         ensures { result ≡ self.taken }
     {
-        let values = self.taken;
         let OpenLoad {
             level: _,
             index: _,
-            taken: _,
+            taken,
         } = self;
-        values
+        taken
     }
 
     fn refused(self, fault: Fault) -> RefusedLoad

@@ -56,7 +56,7 @@ fn next_in_band(reach: Reach, band: u8, from: u32) -> Option<Touch>
     None
 }
 
-// The touched cells from cell `from` on: those of the `left` lowest bands that are left, the highest band first.
+// The touched cells from cell `from` on, in the `left` lowest bands; the highest of these comes first.
 #[derive(Drop)]
 pub struct Touched {
     reach: Reach,

@@ -36,8 +36,9 @@ pub(crate) fn transform(numbers: &mut [i64], m: u8)
         return;
     }
     let half = numbers.len() / 2;
-    transform(&mut numbers[0..half], m - 1);
-    transform(&mut numbers[half..], m - 1);
+    let (low, high) = numbers.split_at_mut(half);
+    transform(low, m - 1);
+    transform(high, m - 1);
     join(numbers, half);
 }
 
@@ -50,8 +51,9 @@ fn restore(numbers: &mut [i64], m: u8)
     }
     let half = numbers.len() / 2;
     part(numbers, half);
-    restore(&mut numbers[0..half], m - 1);
-    restore(&mut numbers[half..], m - 1);
+    let (low, high) = numbers.split_at_mut(half);
+    restore(low, m - 1);
+    restore(high, m - 1);
 }
 
 // A caller's buffer while it holds the tree of a chunk's values; dropped, it holds the values again.

@@ -5,12 +5,9 @@ use Rattle.haar.specs.Haar.{value}
 use Rattle.loads.specs.Share.{told}
 use Rattle.loads.specs.Reach.{Found}
 use Rattle.loads.proofs.Splits.{minutes_chunk}
-use Rattle.loads.proofs.Partly.{partly_start, cell_in, cell_open, sum_fits, new_is, partly_step, partly_end}
+use Rattle.loads.proofs.Partly.{cell_in, cell_open, sum_fits, new_is, partly_step, partly_end}
 use Rattle.loads.proofs.cells.write_cells.Goals as goal
 use Rattle.loads.proofs.cells.write_cells.Goals.{In-Some, After-share-share}
-
-pub loop-touch-init : goal.loop-touch-init
-loop-touch-init g c = rw c.into_iter-touch-iterator.ensures.into_iter_gives (c.of-touch-items.ensures.0, rw c.of-touch-items.ensures.1 (partly_start _ _ _ _ _ _ c.requires.bands))
 
 -- the next touched cell
 found : (g : _) (c : In-Some g) → let r = c.args.chunk.now.reach in Found r.bands r.size r.level r.index c.loop-touch.touch-iterator.from c.in-Some.touch.coefficient c.in-Some.touch.cell

@@ -1,4 +1,4 @@
-use Rattle.std.proofs.Common.{◌≡◌, ◌+◌, ◌-◌, ◌*◌, ◌/◌, ◌^◌, ◌≤◌, ap, ◌∙◌, ap₂, arith}
+use Rattle.std.proofs.Common.{◌≡◌, ◌+◌, ◌-◌, ◌*◌, ◌/◌, ◌^◌, ◌≤◌, ap, ◌∙◌, arith}
 use Rattle.haar.specs.Tiles.{tiles_before}
 use Rattle.loads.proofs.Meeting.{span_fits}
 use Rattle.loads.proofs.touched.cells_met.Goals as goal
@@ -17,12 +17,3 @@ overflow_mul-start c = omega (arith, fits c)
 
 pub overflow_add-result : goal.overflow_add-result
 overflow_add-result c = omega (arith, fits c)
-
-pub returns : goal.returns
-returns c =
-    let b = fits c in
-    let t = before c in
-    let m = ap (λ x. 2 ^ x) c.saturating_sub-more.ensures in
-    let f : c.args.reach.index / 2 ^ c.saturating_sub.result * 2 ^ c.saturating_sub-more.result ≡ c.args.reach.index / 2 ^ (4 * c.args.band + 4 - c.args.reach.level) * 2 ^ (c.args.reach.level - (4 * c.args.band + 4)) =
-    ap₂ (λ x y. c.args.reach.index / 2 ^ x * 2 ^ y) c.saturating_sub.ensures c.saturating_sub-more.ensures in
-    record { from = omega arith; to = omega arith }

@@ -1,4 +1,4 @@
-use Rattle.std.proofs.Common.{◌+◌, ◌-◌, ◌/◌, ◌^◌, ◌≡◌, ◌+ℤ◌, ◌-ℤ◌, sym, ap, ◌∙◌, subst, div-one, arith, w64, SFits, to_z, of_z, rules}
+use Rattle.std.proofs.Common.{◌+◌, ◌-◌, ◌/◌, ◌^◌, ◌≡◌, ◌+ℤ◌, ◌-ℤ◌, sym, ap, ◌∙◌, subst, arith, w64, SFits, to_z, of_z, rules}
 use native.Mathlib.Nat.{div-eq_of_lt}
 use Rattle.std.proofs.lemmas.Int.{to_z-of_z}
 use Rattle.haar.specs.Tree.{S, D}
@@ -45,11 +45,3 @@ pub loop-half-preserved : goal.loop-half-preserved
 loop-half-preserved c =
     let d = (goal.at.loop-half-preserved c).After-difference_at-difference in
     (omega arith, halved _ (fits d).1 ∙ down_right _ c.args.level c.args.index _ _ _ c.loop-half-test.true c.loop-half.invariant.1 (is d) c.if-index-half-eq0.false)
-
-pub returns : goal.returns
-returns c =
-    let t = c.args.self.now in
-    let e : c.loop-half.half ≡ c.args.level = omega arith in
-    let z : c.loop-half.half - c.args.level ≡ 0 = omega arith in
-    c.loop-half.invariant.1 ∙ ap (λ x. S (alone (unhaar t.reach.level t.numbers.now)) x (c.args.index / 2 ^ (c.loop-half.half - c.args.level))) e
-    ∙ ap (S (alone (unhaar t.reach.level t.numbers.now)) c.args.level) (ap (λ x. c.args.index / 2 ^ x) z ∙ div-one c.args.index)

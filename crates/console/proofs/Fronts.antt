@@ -1,12 +1,9 @@
--- The front of a window after bytes came to its end, and after its first bytes went; of a buffer with a line in it.
-use Rattle.std.proofs.Common.{◌≡◌, ℕ, ◌+◌, ◌-◌, ◌<◌, ◌≤◌, List, ◌++◌, length, take, drop, Ok, sym, refl, ap, ◌∙◌, ap₂, inl, inr, zero-add, arith, length-append, length-drop, take-append-drop, length-take}
+-- The front of a window after bytes came to its end, and after its first bytes went.
+use Rattle.std.proofs.Common.{◌≡◌, ℕ, ◌+◌, ◌-◌, ◌<◌, ◌≤◌, List, ◌++◌, length, take, drop, sym, refl, ap, ◌∙◌, ap₂, zero-add, arith, length-append, length-drop, take-append-drop, length-take}
 use lib.Seq.{take-append-add, take-append-le, take-append_seam, paste}
 use borrow.Rule.Slice.PartMut.{put_mid, post_of}
 use Rattle.std.proofs.lemmas.List.Edits.{take-paste}
 use Rattle.std.proofs.lemmas.List.{drop-take, drop_all}
-use Rattle.std.proofs.lemmas.Bool.{cases_lt}
-use Rattle.wire.specs.declared.line.Line.{Line}
-use Rattle.wire.specs.Line.{line_bytes, WritesLine}
 use Rattle.console.specs.Ends.{Gave}
 
 -- n of the bytes ys that were put after the first `at`
@@ -26,17 +23,6 @@ moved used end xs ys h l e =
     ∙ take-paste xs 0 (drop used xs) (end - used) (omega arith) (omega arith)
     ∙ sym (drop-take used (end - used) xs)
     ∙ ap (λ i. drop used (take i xs)) u
-
--- the line at the front of the buffer that it was written into
-pub line_front : (l : Line) (before after : List ℕ) (len : ℕ) → WritesLine l before after (Ok len) → take (len - 0) after ≡ line_bytes l
-line_front l before after len s =
-    elim (cases_lt (length before) (length (line_bytes l))) [
-      | inl short ↦ let q = (s.refused short).0 in absurd (let z : ◌≡◌ {A = ℕ} 0 1 = cc in omega arith)
-      | inr long ↦
-          let u = s.written long in
-          let n : len - 0 ≡ length (line_bytes l) = let q = u.0 in let k : len ≡ length (line_bytes l) = cc in omega arith in
-          ap₂ take n u.1 ∙ take-append_seam (line_bytes l) (drop (length (line_bytes l)) before)
-    ]
 
 -- the first n of some bytes at the front of a buffer, and those after them kept
 pub gave_front : (bs front post rest : List ℕ) (n : ℕ) → front ≡ take n bs → rest ≡ drop n bs → n ≤ length bs → (n ≡ 0 → 0 < length (front ++ post) → length bs ≡ 0) → Gave (λ r. r ≡ bs) (λ r. r ≡ rest) (front ++ post) n

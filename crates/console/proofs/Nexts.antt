@@ -10,10 +10,9 @@ use Rattle.wire.specs.Decode.{decoded, decode_fault_number}
 use Rattle.feed.specs.declared.fault.Cause.{Cause}
 use Rattle.feed.specs.declared.fault.Cause.TheVariants.{Decode, Sequence, Warehouse}
 use Rattle.feed.specs.declared.fault.FeedFault.{FeedFault}
-use Rattle.feed.specs.declared.outcome.Outcome.{Outcome}
-use Rattle.feed.specs.declared.outcome.Outcome.TheVariants.{On, End}
-use Rattle.feed.specs.declared.state.Loading.{Loading}
-use Rattle.feed.specs.Step.{Reply, Steps, StepsBy, after, after_fault}
+use Rattle.feed.specs.Step.{Reply, Outcome, Steps, StepsBy, on, after, after_fault}
+use Rattle.loads.specs.declared.open.OpenLoad.{OpenLoad}
+use Rattle.std.specs.declared.ops.ControlFlow.TheVariants.{Continue, Break}
 use Rattle.feed.proofs.Advancing.{shorter, after_command}
 use Rattle.agreement.specs.History.{History, Leads}
 use Rattle.feedlaw.specs.Turns.{turn}
@@ -22,34 +21,40 @@ use Rattle.feedlaw.specs.Law.{load_of, desk_of}
 use Rattle.feedlaw.proofs.Obeying.{obeyed_right}
 use Rattle.feedlaw.proofs.Prefixes.{with_more, decoded_more}
 use Rattle.feedlaw.proofs.Telling.{told_turn, told_stop}
-use Rattle.console.specs.declared.ends.Broken.{Broken}
-use Rattle.console.specs.Ends.{Then}
+use Rattle.console.specs.declared.ends.Sink.{Ghosts}
+use Rattle.console.specs.Ends.{Takes}
+use Rattle.std.specs.Result.{MatchResult}
 use Rattle.console.specs.Playing.{state, Ended, After, StepsOn, Nexts}
 
--- a command that was obeyed has the width that the outcome says
-fault_width : (f : FeedFault) (cause : Cause) (k w : ℕ) (l : Option Line) → On l w ≡ after_fault f cause k → w ≡ k
-fault_width f (Decode d) k w l e = absurd (let z : ◌≡◌ {A = ℕ} 0 1 = cc in omega arith)
-fault_width f Sequence k w l e = cc
-fault_width f (Warehouse r) k w l e = cc
+-- an outcome's line and width, the width of the last line's command being none
+abbrev pub said : Outcome → Option Line × Option ℕ
+said (Continue x) = (x.line, Some x.width)
+said (Break last) = (Some last, None)
 
-after_width : (r : Reply) (k w : ℕ) (l : Option Line) → On l w ≡ after r k → w ≡ k
-after_width (Ok x) k w l e = cc
+-- a command that was obeyed has the width that the outcome says
+fault_width : (f : FeedFault) (cause : Cause) (k w : ℕ) (l : Option Line) → on l w ≡ after_fault f cause k → w ≡ k
+fault_width f (Decode d) k w l e = absurd cc
+fault_width f Sequence k w l e = let q = ap (λ x. (said x).1) e in cc
+fault_width f (Warehouse r) k w l e = let q = ap (λ x. (said x).1) e in cc
+
+after_width : (r : Reply) (k w : ℕ) (l : Option Line) → on l w ≡ after r k → w ≡ k
+after_width (Ok x) k w l e = let q = ap (λ x. (said x).1) e in cc
 after_width (Err f) k w l e = fault_width f f.cause k w l e
 
 -- a command that is not cut short is decoded alike, whatever follows
 more_decoded : (bs more : List ℕ) (c : Command) (rest : List ℕ) → 0 < length bs → decoded bs ≡ Ok (c, rest) → decoded (bs ++ more) ≡ Ok (c, rest ++ more)
 more_decoded bs more c rest h e =
-    ⊎_elim (λ (u : (length bs < 9) × (decoded bs ≡ Err Cut)). absurd (let q = u.1 in let z : ◌≡◌ {A = ℕ} 0 1 = cc in omega arith)) (λ u. u ∙ ap (with_more more) e) (decoded_more bs more h)
+    ⊎_elim (λ (u : (length bs < 9) × (decoded bs ≡ Err Cut)). absurd (let q = u.1 in cc)) (λ u. u ∙ ap (with_more more) e) (decoded_more bs more h)
 
 more_refused : (bs more : List ℕ) (f : DecodeFault) → 0 < length bs → After bs more → decoded bs ≡ Err f → decoded (bs ++ more) ≡ Err f
 more_refused bs more f h a e =
     ⊎_elim (λ (u : (length bs < 9) × (decoded bs ≡ Err Cut)). ap (λ x. decoded (bs ++ x)) (a u.0) ∙ ap decoded (append-nil bs) ∙ e) (λ u. u ∙ ap (with_more more) e) (decoded_more bs more h)
 
-module _ (v v' : View) (l l' : Loading) (zs zs' : List ℤ) (bs : List ℕ) (o : ℕ) (h : 0 < length bs) (K K' : List ℕ → Type 0) where
+module _ (v v' : View) (l l' : Option OpenLoad) (zs zs' : List ℤ) (bs : List ℕ) (o : ℕ) (h : 0 < length bs) (K K' : List ℕ → Type 0) where
   took_all : (ls ms : List Line) → ls ≡ ms → ((w : List ℕ) → K w → K' (w ++ text ls)) → (w : List ℕ) → K w → K' (w ++ text ms)
   took_all ls ms e t w k = subst (λ x. K' (w ++ text x)) e (t w k)
 
-  on_went : (line : Option Line) (w : ℕ) → ((x : List ℕ) → K x → K' (x ++ text (shown line))) → (c : Command) (rest : List ℕ) → decoded bs ≡ Ok (c, rest) → StepsBy (Ok (c, rest)) v l zs bs o l' (On line w) zs' v'
+  on_went : (line : Option Line) (w : ℕ) → ((x : List ℕ) → K x → K' (x ++ text (shown line))) → (c : Command) (rest : List ℕ) → decoded bs ≡ Ok (c, rest) → StepsBy (Ok (c, rest)) v l zs bs o l' (on line w) zs' v'
       → StepsOn (state v l zs) o bs K K' w (state v' l' zs')
   on_went line w took c rest e s =
       let width : w ≡ length bs - length rest = after_width s.0 (length bs - length rest) w line s.2 in
@@ -61,7 +66,7 @@ module _ (v v' : View) (l l' : Loading) (zs zs' : List ℤ) (bs : List ℕ) (o :
         went = λ F past leads.
             let t = obeyed_right F v v' past l l' zs zs' c o s.0 leads s.1 in
             let u = turn F.store.bands F.store.room (desk_of F past l zs) c o in
-            let says : line ≡ u.line = let q = s.2 ∙ t.line (length bs - length rest) in cc in
+            let says : line ≡ u.line = ap (λ x. (said x).0) (s.2 ∙ t.line (length bs - length rest)) in
             record {
               history = t.history;
               leads = t.leads;
@@ -76,17 +81,17 @@ module _ (v v' : View) (l l' : Loading) (zs zs' : List ℤ) (bs : List ℕ) (o :
             };
       }
 
-  pub next_on : (line : Option Line) (w : ℕ) → ((x : List ℕ) → K x → K' (x ++ text (shown line))) → Steps v l zs bs o l' (On line w) zs' v' → StepsOn (state v l zs) o bs K K' w (state v' l' zs')
+  next_on : (line : Option Line) (w : ℕ) → ((x : List ℕ) → K x → K' (x ++ text (shown line))) → Steps v l zs bs o l' (on line w) zs' v' → StepsOn (state v l zs) o bs K K' w (state v' l' zs')
   next_on line w took s = by (decoded bs) refl s
     where
-      by : (r : Result (Command × List ℕ) DecodeFault) → decoded bs ≡ r → StepsBy r v l zs bs o l' (On line w) zs' v' → StepsOn (state v l zs) o bs K K' w (state v' l' zs')
-      by (Err f) e s = absurd (let q = s.0 in let z : ◌≡◌ {A = ℕ} 0 1 = cc in omega arith)
+      by : (r : Result (Command × List ℕ) DecodeFault) → decoded bs ≡ r → StepsBy r v l zs bs o l' (on line w) zs' v' → StepsOn (state v l zs) o bs K K' w (state v' l' zs')
+      by (Err f) e s = absurd (let q = s.0 in cc)
       by (Ok (c, rest)) e s = on_went line w took c rest e s
 
-  pub next_end : (last : Line) → ((x : List ℕ) → K x → K' (x ++ text (last ∷ []))) → Steps v l zs bs o l' (End last) zs' v' → (F : View) (past : History) → Leads F past v → Ended F past (state v l zs) o bs (After bs) K K' (state v' l' zs')
+  next_end : (last : Line) → ((x : List ℕ) → K x → K' (x ++ text (last ∷ []))) → Steps v l zs bs o l' (Break last) zs' v' → (F : View) (past : History) → Leads F past v → Ended F past (state v l zs) o bs (After bs) K K' (state v' l' zs')
   next_end last took s F past leads = by (decoded bs) refl s
     where
-      by : (r : Result (Command × List ℕ) DecodeFault) → decoded bs ≡ r → StepsBy r v l zs bs o l' (End last) zs' v' → Ended F past (state v l zs) o bs (After bs) K K' (state v' l' zs')
+      by : (r : Result (Command × List ℕ) DecodeFault) → decoded bs ≡ r → StepsBy r v l zs bs o l' (Break last) zs' v' → Ended F past (state v l zs) o bs (After bs) K K' (state v' l' zs')
       by (Err f) e s =
           let says : last ≡ line.Refused (decode_fault_number f) o = let q = s.0 in cc in
           record {
@@ -101,17 +106,16 @@ module _ (v v' : View) (l l' : Loading) (zs zs' : List ℤ) (bs : List ℕ) (o :
           }
       by (Ok (c, rest)) e s =
           let t = obeyed_right F v v' past l l' zs zs' c o s.0 leads s.1 in
-          absurd (let q = s.2 ∙ t.line (length bs - length rest) in let z : ◌≡◌ {A = ℕ} 0 1 = cc in omega arith)
+          absurd (let q = s.2 ∙ t.line (length bs - length rest) in cc)
 
-  -- with what printing answered
-  pub printed_on : (stuck : Type 0) (out : Outcome) (said : Option Line) (w : ℕ) (r : Result (Option ℕ) Broken) → out ≡ On said w → Steps v l zs bs o l' out zs' v' → Then K K' stuck (text (shown said)) (Some w) r
-      → Nexts (state v l zs) o bs K K' stuck r (state v' l' zs')
-  printed_on stuck out said w (Ok x) e s t =
-      subst (λ y. Nexts (state v l zs) o bs K K' stuck (Ok y) (state v' l' zs')) (sym t.0) (next_on said w t.1 (subst (λ y. Steps v l zs bs o l' y zs' v') e s))
-  printed_on stuck out said w (Err b) e s t = t
-
-  pub printed_end : (stuck : Type 0) (out : Outcome) (last : Line) (r : Result (Option ℕ) Broken) → out ≡ End last → Steps v l zs bs o l' out zs' v' → Then K K' stuck (text (shown (Some last))) None r
-      → Nexts (state v l zs) o bs K K' stuck r (state v' l' zs')
-  printed_end stuck out last (Ok x) e s t =
-      subst (λ y. Nexts (state v l zs) o bs K K' stuck (Ok y) (state v' l' zs')) (sym t.0) (next_end last t.1 (subst (λ y. Steps v l zs bs o l' y zs' v') e s))
-  printed_end stuck out last (Err b) e s t = t
+-- with what printing answered
+pub printed : {O E : Type 0} (sink : Ghosts O E) (k k' : O) (v v' : View) (l l' : Option OpenLoad) (zs zs' : List ℤ) (bs : List ℕ) (o : ℕ) → 0 < length bs
+    → (out : Outcome) (p : Option Line × Option ℕ) (q : Result Unit E) (r : Result (Option ℕ) E) → p ≡ said out → Steps v l zs bs o l' out zs' v'
+    → Takes (sink.took k) (sink.took k') (sink.stuck k') (text (shown p.0)) q → MatchResult q (λ x. r ≡ Ok p.1) (λ e. r ≡ Err e) → Nexts (state v l zs) o bs sink k k' r (state v' l' zs')
+printed sink k k' v v' l l' zs zs' bs o h (Continue x) p (Ok u) r e s t a =
+    let took : (w : List ℕ) → sink.took k w → sink.took k' (w ++ text (shown x.line)) = subst (λ p. (w : List ℕ) → sink.took k w → sink.took k' (w ++ text (shown p.0))) e t in
+    subst (λ y. Nexts (state v l zs) o bs sink k k' y (state v' l' zs')) (sym (a ∙ ap (λ p. Ok p.1) e)) (next_on v v' l l' zs zs' bs o h (sink.took k) (sink.took k') x.line x.width took s)
+printed sink k k' v v' l l' zs zs' bs o h (Break last) p (Ok u) r e s t a =
+    let took : (w : List ℕ) → sink.took k w → sink.took k' (w ++ text (last ∷ [])) = subst (λ p. (w : List ℕ) → sink.took k w → sink.took k' (w ++ text (shown p.0))) e t in
+    subst (λ y. Nexts (state v l zs) o bs sink k k' y (state v' l' zs')) (sym (a ∙ ap (λ p. Ok p.1) e)) (next_end v v' l l' zs zs' bs o h (sink.took k) (sink.took k') last took s)
+printed sink k k' v v' l l' zs zs' bs o h out p (Err b) r e s t a = subst (λ y. Nexts (state v l zs) o bs sink k k' y (state v' l' zs')) (sym a) t

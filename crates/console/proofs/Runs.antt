@@ -1,30 +1,30 @@
 -- A feed to its end, on a warehouse with any history and on one that is new.
-use Rattle.std.proofs.Common.{◌≡◌, ℕ, List, [], ◌++◌, ℤ, Ok, Err, Result, sym, refl, ap, ◌∙◌, subst, append-nil, arith}
+use Rattle.std.proofs.Common.{◌≡◌, ℕ, List, [], ◌++◌, ℤ, Some, None, Ok, Err, Option, Result, sym, refl, ap, ◌∙◌, subst, append-nil, arith}
+use Rattle.std.specs.Result.{MatchResult, IsErrAnd, is_ok}
 use Rattle.store.specs.Meaning.{Meaning}
 use Rattle.warehouse.specs.Founding.{Founded, cut}
 use Rattle.warehouse.specs.View.{View, view}
-use Rattle.feed.specs.declared.state.Loading.{Loading}
-use Rattle.feed.specs.declared.state.Loading.TheVariants.{Idle, Open}
+use Rattle.loads.specs.declared.open.OpenLoad.{OpenLoad}
 use Rattle.feed.specs.Step as step
 use Rattle.agreement.specs.History.{new, begun, tally}
 use Rattle.feedlaw.specs.Turns.{closed, desk}
 use Rattle.feedlaw.specs.Lines.{ending, shown, told, text}
 use Rattle.feedlaw.specs.Law.{load_of}
+use Rattle.console.specs.declared.ends.Source as source
+use Rattle.console.specs.declared.ends.Sink as sink
 use Rattle.console.specs.declared.fault.RunFault.{RunFault}
 use Rattle.console.specs.declared.fault.RunFault.TheVariants.{Founding, Input, Output, Long}
-use Rattle.console.specs.Playing.{State, state, to_come}
+use Rattle.console.specs.Ends.{Takes, Flushes}
+use Rattle.console.specs.Playing.{state, to_come}
 use Rattle.console.specs.Pumping.{Drained, Pumps}
 use Rattle.console.specs.Running.{Whole, Resumed, Ran}
 use Rattle.console.proofs.Onward.{took_both}
 
-ending_line : (l : Loading) → shown (step.ending l) ≡ ending (load_of l)
-ending_line Idle = refl
-ending_line (Open l) = refl
+ending_line : (l : Option OpenLoad) → shown (step.ending l) ≡ ending (load_of l)
+ending_line None = refl
+ending_line (Some l) = refl
 
-pub drained : (s s' : State) (G G' : List ℕ → Type 0) (broken : Type 0) (K K' : List ℕ → Type 0) (stuck : Type 0) (r : Result Unit RunFault) (u : Unit) → r ≡ Ok u → Pumps s G G' broken K K' stuck r s' → Drained s G K K' s'
-drained s s' G G' broken K K' stuck r u e p = subst (λ y. Pumps s G G' broken K K' stuck y s') e p
-
-pub whole : (v v' : View) (l' : Loading) (zs zs' : List ℤ) (G K K' K'' K''' : List ℕ → Type 0) → Drained (state v Idle zs) G K K' (state v' l' zs')
+whole : (v v' : View) (l' : Option OpenLoad) (zs zs' : List ℤ) (G K K' K'' K''' : List ℕ → Type 0) → Drained (state v None zs) G K K' (state v' l' zs')
     → ((w : List ℕ) → K' w → K'' (w ++ text (shown (step.ending l')))) → ((w : List ℕ) → K'' w → K''' w) → Whole v zs G K K''' v'
 whole v v' l' zs zs' G K K' K'' K''' d last flushed =
     record {
@@ -32,14 +32,31 @@ whole v v' l' zs zs' G K K' K'' K''' d last flushed =
       given = d.given;
       after = λ F h leads.
           let e = d.ended F h leads in
-          let all : to_come F h (state v Idle zs) 0 d.bytes ≡ e.lines ++ shown (step.ending l') =
-          ap (to_come F h (state v Idle zs) 0) (sym (append-nil d.bytes)) ∙ e.come [] refl ∙ ap (λ x. e.lines ++ x) (sym (ending_line l')) in
+          let all : to_come F h (state v None zs) 0 d.bytes ≡ e.lines ++ shown (step.ending l') =
+          ap (to_come F h (state v None zs) 0) (sym (append-nil d.bytes)) ∙ e.come [] refl ∙ ap (λ x. e.lines ++ x) (sym (ending_line l')) in
           record {
             history = e.history;
             leads = e.leads;
             took = λ w k. flushed _ (subst (λ ls. K'' (w ++ text ls)) (sym all) (took_both K K' K'' e.lines (shown (step.ending l')) e.took last w k));
           };
     }
+
+-- an answer by its case, through a change of its error
+pub ok_before : {E F : Type 0} (q : Result Unit E) (r : Result Unit F) → is_ok r ≡ is_ok q → r ≡ Ok tt → q ≡ Ok tt
+ok_before (Ok u) r same e = refl
+ok_before (Err x) r same e = absurd (let b = sym same ∙ ap is_ok e in cc)
+
+-- a feed to its end: what the loop over its pieces came to, then the line of an open load, then what the sink held back
+pub resumed : {I O E D : Type 0} (from : source.Ghosts I E) (i i' : I) (to : sink.Ghosts O D) (k a b k' : O) (v v' : View) (l' : Option OpenLoad) (zs zs' : List ℤ)
+    (pumped r : Result Unit (RunFault E D)) (printed flushed : Result Unit D) → pumped ≡ Ok tt → Pumps (state v None zs) from i i' to k a pumped (state v' l' zs')
+    → printed ≡ Ok tt → Takes (to.took a) (to.took b) (to.stuck b) (text (shown (step.ending l'))) printed
+    → Flushes (to.took b) (to.took k') (to.stuck k') flushed → MatchResult flushed (λ x. r ≡ Ok x) (λ e. IsErrAnd r (λ f. f ≡ Output e)) → Resumed v zs from i i' to k k' r v'
+resumed from i i' to k a b k' v v' l' zs zs' pumped r printed (Ok u) e p e' t f m =
+    subst (λ y. Resumed v zs from i i' to k k' y v') (sym m)
+    (whole v v' l' zs zs' (from.gives i) (to.took k) (to.took a) (to.took b) (to.took k') (subst (λ y. Pumps (state v None zs) from i i' to k a y (state v' l' zs')) e p)
+    (subst (λ y. Takes (to.took a) (to.took b) (to.stuck b) (text (shown (step.ending l'))) y) e' t) f)
+resumed from i i' to k a b k' v v' l' zs zs' pumped (Ok u) printed (Err x) e p e' t f m = absurd m
+resumed from i i' to k a b k' v v' l' zs zs' pumped (Err y) printed (Err x) e p e' t f m = subst (λ y. Resumed v zs from i i' to k k' (Err y) v') (sym m) f
 
 -- on a store that a survey accepted, taken over at the size asked for
 module _ (m : Meaning) (n : ℕ) (founded : Founded (record { size = n; store = m })) where
@@ -49,16 +66,17 @@ module _ (m : Meaning) (n : ℕ) (founded : Founded (record { size = n; store = 
   founds : Founded (view m (cut m n))
   founds = record { sized = record { some = founded.sized.some; fits = let h = founded.sized.fits in omega arith }; empty = founded.empty; room = founded.room }
 
-  pub ran : (zs : List ℤ) (G G' : List ℕ → Type 0) (broken : Type 0) (K K' : List ℕ → Type 0) (stuck : Type 0) (r : Result Unit RunFault) (v' : View) → Resumed (view m (cut m n)) zs G G' broken K K' stuck r v' → Ran m n zs G G' broken K K' stuck r
-  ran zs G G' broken K K' stuck (Ok _) v' s =
+  pub ran : {I O E D : Type 0} (from : source.Ghosts I E) (i i' : I) (to : sink.Ghosts O D) (k k' : O) (zs : List ℤ) (r : Result Unit (RunFault E D)) (v' : View)
+      → Resumed (view m (cut m n)) zs from i i' to k k' r v' → Ran m n zs from i i' to k k' r
+  ran from i i' to k k' zs (Ok _) v' s =
       let a = s.after (view m (cut m n)) new (begun founds) in
       record {
         founded = founded;
         bytes = s.bytes;
         given = s.given;
-        took = λ w k. subst (λ i. K' (w ++ text (told m.bands m.room (desk (tally i new) closed zs) 0 s.bytes))) size_kept (a.took w k);
+        took = λ w t. subst (λ j. to.took k' (w ++ text (told m.bands m.room (desk (tally j new) closed zs) 0 s.bytes))) size_kept (a.took w t);
       }
-  ran zs G G' broken K K' stuck (Err Input) v' s = s
-  ran zs G G' broken K K' stuck (Err Output) v' s = s
-  ran zs G G' broken K K' stuck (Err Long) v' s = s
-  ran zs G G' broken K K' stuck (Err (Founding e)) v' s = absurd s
+  ran from i i' to k k' zs (Err (Input e)) v' s = s
+  ran from i i' to k k' zs (Err (Output e)) v' s = s
+  ran from i i' to k k' zs (Err Long) v' s = s
+  ran from i i' to k k' zs (Err (Founding e)) v' s = absurd s

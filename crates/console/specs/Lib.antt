@@ -3,3 +3,4 @@ pub mod Windows
 pub mod Playing
 pub mod Running
 pub mod Pumping
+pub mod Faults

@@ -1,19 +1,18 @@
 -- What playing the bytes of a feed comes to: the lines that the sink took, and those that are still to come.
 --   K, K'         the bytes that the sink may have been given, before and after
 --   Follows       what may come after the bytes at hand: nothing, if they are the last
---   Went          a warehouse with a history went on to a longer one, and the lines of the recount with it
---   Ended         the feed ended, and only the line of an open load is to come
---   Nexts, Plays  the same of one command, and of some bytes
+--   Played        a warehouse with a history went on to a longer one, and the sink took the lines of the recount until there
+--   Went          so, and the rest of the bytes is to come
+--   Ended         so, and the feed ended: only the line of an open load is to come
+--   Nexts, Plays  the same of one command, and of some bytes, to a sink that was k and is k'
 use Rattle.std.specs.Prelude.{◌≡◌, ℕ, ◌+◌, ◌-◌, ◌<◌, ◌≤◌, Bool, true, false, List, [], ◌++◌, length, drop, ℤ, Some, None, Ok, Err, Option, Result}
 use Rattle.warehouse.specs.View.{View}
 use Rattle.wire.specs.declared.line.Line.{Line}
-use Rattle.feed.specs.declared.state.Loading.{Loading}
+use Rattle.loads.specs.declared.open.OpenLoad.{OpenLoad}
 use Rattle.agreement.specs.History.{History, Leads}
 use Rattle.feedlaw.specs.Lines.{ending, told, text}
 use Rattle.feedlaw.specs.Law.{load_of, desk_of}
-use Rattle.console.specs.declared.ends.Broken.{Broken}
-use Rattle.console.specs.declared.played.Played.{Played}
-use Rattle.console.specs.declared.played.Played.TheVariants.{On, Over}
+use Rattle.console.specs.declared.ends.Sink.{Ghosts}
 
 abbrev pub Follows : Bool → List ℕ → Type 0
 Follows true more = more ≡ []
@@ -22,29 +21,29 @@ Follows false more = Unit {0}
 -- what a warehouse, an open load and a buffer are between two commands
 pub record State : Type 0 where
   pub view : View
-  pub loading : Loading
+  pub loading : Option OpenLoad
   pub values : List ℤ
 
-abbrev pub state : View → Loading → List ℤ → State
+abbrev pub state : View → Option OpenLoad → List ℤ → State
 state v l zs = record { view = v; loading = l; values = zs }
 
 -- the lines to come, of a warehouse founded as F with the history h
 abbrev pub to_come : View → History → State → ℕ → List ℕ → List Line
 to_come F h s o bs = told F.store.bands F.store.room (desk_of F h s.loading s.values) o bs
 
-pub record Went (F : View) (h : History) (s : State) (o : ℕ) (bs : List ℕ) (M : List ℕ → Type 0) (K K' : List ℕ → Type 0) (s' : State) (o' : ℕ) (rest : List ℕ) : Type 0 where
+-- `after` is what then is to come, by the history and by what follows the bytes
+pub record Played (F : View) (h : History) (s : State) (o : ℕ) (bs : List ℕ) (M : List ℕ → Type 0) (K K' : List ℕ → Type 0) (s' : State) (after : History → List ℕ → List Line) : Type 0 where
   pub history : History
   pub leads : Leads F history s'.view
   pub lines : List Line
   pub took : (w : List ℕ) → K w → K' (w ++ text lines)
-  pub come : (more : List ℕ) → M more → to_come F h s o (bs ++ more) ≡ lines ++ to_come F history s' o' (rest ++ more)
+  pub come : (more : List ℕ) → M more → to_come F h s o (bs ++ more) ≡ lines ++ after history more
 
-pub record Ended (F : View) (h : History) (s : State) (o : ℕ) (bs : List ℕ) (M : List ℕ → Type 0) (K K' : List ℕ → Type 0) (s' : State) : Type 0 where
-  pub history : History
-  pub leads : Leads F history s'.view
-  pub lines : List Line
-  pub took : (w : List ℕ) → K w → K' (w ++ text lines)
-  pub come : (more : List ℕ) → M more → to_come F h s o (bs ++ more) ≡ lines ++ ending (load_of s'.loading)
+abbrev pub Went : View → History → State → ℕ → List ℕ → (List ℕ → Type 0) → (K K' : List ℕ → Type 0) → State → ℕ → List ℕ → Type 0
+Went F h s o bs M K K' s' o' rest = Played F h s o bs M K K' s' (λ history more. to_come F history s' o' (rest ++ more))
+
+abbrev pub Ended : View → History → State → ℕ → List ℕ → (List ℕ → Type 0) → (K K' : List ℕ → Type 0) → State → Type 0
+Ended F h s o bs M K K' s' = Played F h s o bs M K K' s' (λ history more. ending (load_of s'.loading))
 
 -- what may follow a command: fewer than nine bytes must be the last
 abbrev pub After : List ℕ → List ℕ → Type 0
@@ -55,10 +54,10 @@ pub record StepsOn (s : State) (o : ℕ) (bs : List ℕ) (K K' : List ℕ → Ty
   pub within : width ≤ length bs
   pub went : (F : View) (h : History) → Leads F h s.view → Went F h s o bs (λ more. Unit {0}) K K' s' (o + width) (drop width bs)
 
-abbrev pub Nexts : State → ℕ → List ℕ → (List ℕ → Type 0) → (List ℕ → Type 0) → Type 0 → Result (Option ℕ) Broken → State → Type 0
-Nexts s o bs K K' stuck (Ok (Some width)) s' = StepsOn s o bs K K' width s'
-Nexts s o bs K K' stuck (Ok None) s' = (F : View) (h : History) → Leads F h s.view → Ended F h s o bs (After bs) K K' s'
-Nexts s o bs K K' stuck (Err e) s' = stuck
+abbrev pub Nexts : {O E : Type 0} → State → ℕ → List ℕ → Ghosts O E → O → O → Result (Option ℕ) E → State → Type 0
+Nexts s o bs sink k k' (Ok (Some width)) s' = StepsOn s o bs (sink.took k) (sink.took k') width s'
+Nexts s o bs sink k k' (Ok None) s' = (F : View) (h : History) → Leads F h s.view → Ended F h s o bs (After bs) (sink.took k) (sink.took k') s'
+Nexts s o bs sink k k' (Err e) s' = sink.stuck k'
 
 -- fewer than nine bytes are left, and none of the last
 pub record PlaysOn (s : State) (o : ℕ) (bs : List ℕ) (last : Bool) (K K' : List ℕ → Type 0) (used : ℕ) (s' : State) : Type 0 where
@@ -67,7 +66,7 @@ pub record PlaysOn (s : State) (o : ℕ) (bs : List ℕ) (last : Bool) (K K' : L
   pub all : last ≡ true → used ≡ length bs
   pub went : (F : View) (h : History) → Leads F h s.view → Went F h s o bs (Follows last) K K' s' (o + used) (drop used bs)
 
-abbrev pub Plays : State → ℕ → List ℕ → Bool → (List ℕ → Type 0) → (List ℕ → Type 0) → Type 0 → Result Played Broken → State → Type 0
-Plays s o bs last K K' stuck (Ok (On used)) s' = PlaysOn s o bs last K K' used s'
-Plays s o bs last K K' stuck (Ok Over) s' = (F : View) (h : History) → Leads F h s.view → Ended F h s o bs (Follows last) K K' s'
-Plays s o bs last K K' stuck (Err e) s' = stuck
+abbrev pub Plays : {O E : Type 0} → State → ℕ → List ℕ → Bool → Ghosts O E → O → O → Result (Option ℕ) E → State → Type 0
+Plays s o bs last sink k k' (Ok (Some used)) s' = PlaysOn s o bs last (sink.took k) (sink.took k') used s'
+Plays s o bs last sink k k' (Ok None) s' = (F : View) (h : History) → Leads F h s.view → Ended F h s o bs (Follows last) (sink.took k) (sink.took k') s'
+Plays s o bs last sink k k' (Err e) s' = sink.stuck k'

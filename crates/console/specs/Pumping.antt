@@ -1,13 +1,14 @@
 -- What a feed has come to before its end.
 --   Pumped          some bytes were read, and the lines of the recount with them
---   Pumps           the answer of the loop over the pieces of a feed
-use Rattle.std.specs.Prelude.{◌≡◌, ℕ, ◌+◌, List, [], ◌++◌, length, Ok, Err, Result}
+--   Pumps           the answer of the loop over the pieces of a feed, from a source that was i and is i' to a sink that was k and is k'
+use Rattle.std.specs.Prelude.{◌≡◌, ℕ, ◌+◌, List, [], ◌++◌, length, Result}
 use Rattle.warehouse.specs.View.{View}
 use Rattle.agreement.specs.History.{History, Leads}
 use Rattle.console.specs.declared.fault.RunFault.{RunFault}
-use Rattle.console.specs.declared.fault.RunFault.TheVariants.{Founding, Input, Output, Long}
+use Rattle.console.specs.declared.ends.Source as source
+use Rattle.console.specs.declared.ends.Sink as sink
 use Rattle.console.specs.Playing.{State, Went, Ended}
-use Rattle.console.specs.Running.{LongFeed}
+use Rattle.console.specs.Running.{Answers}
 
 -- `held` is read and not yet obeyed, and stands at offset o
 pub record Pumped (s : State) (G G' K K' : List ℕ → Type 0) (s' : State) (o : ℕ) (held : List ℕ) : Type 0 where
@@ -22,9 +23,5 @@ pub record Drained (s : State) (G K K' : List ℕ → Type 0) (s' : State) : Typ
   pub given : G bytes
   pub ended : (F : View) (h : History) → Leads F h s.view → Ended F h s 0 bytes (λ more. more ≡ []) K K' s'
 
-abbrev pub Pumps : State → (G G' : List ℕ → Type 0) → Type 0 → (K K' : List ℕ → Type 0) → Type 0 → Result Unit RunFault → State → Type 0
-Pumps s G G' broken K K' stuck (Ok _) s' = Drained s G K K' s'
-Pumps s G G' broken K K' stuck (Err Input) s' = broken
-Pumps s G G' broken K K' stuck (Err Output) s' = stuck
-Pumps s G G' broken K K' stuck (Err Long) s' = LongFeed G G'
-Pumps s G G' broken K K' stuck (Err (Founding e)) s' = ⊥
+abbrev pub Pumps : {I O E D : Type 0} → State → source.Ghosts I E → I → I → sink.Ghosts O D → O → O → Result Unit (RunFault E D) → State → Type 0
+Pumps s from i i' to k k' r s' = Answers from i i' to k k' (Drained s (from.gives i) (to.took k) (to.took k') s') (λ _. ⊥) r

@@ -1,12 +1,7 @@
 -- The window on a feed.
---   held w     the bytes that are in it
 --   Fills      more bytes from a source came to its end
-use Rattle.std.specs.Prelude.{◌≡◌, ℕ, List, [], ◌++◌, length, take, Ok, Err, Result}
-use Rattle.console.specs.declared.ends.Broken.{Broken}
-use Rattle.console.specs.declared.window.Window.{Window}
-
-abbrev pub held : Window → List ℕ
-held w = take w.len w.bytes
+use Rattle.std.specs.Prelude.{◌≡◌, ℕ, List, [], ◌++◌, length, Ok, Err, Result}
+use Rattle.console.specs.declared.ends.Source.{Ghosts}
 
 -- what a source that gave G and now gives G' brought: n bytes
 pub record Brought (G G' : List ℕ → Type 0) (before after : List ℕ) (n : ℕ) : Type 0 where
@@ -17,6 +12,7 @@ pub record Brought (G G' : List ℕ → Type 0) (before after : List ℕ) (n : �
   pub some : (rest : List ℕ) × G' rest
   pub ended : n ≡ 0 → G' []
 
-abbrev pub Fills : (List ℕ → Type 0) → (List ℕ → Type 0) → Type 0 → List ℕ → List ℕ → Result ℕ Broken → Type 0
-Fills G G' broken before after (Ok n) = Brought G G' before after n
-Fills G G' broken before after (Err e) = broken
+-- of a kind of source, from i to i'
+abbrev pub Fills : {I E : Type 0} → Ghosts I E → I → I → List ℕ → List ℕ → Result ℕ E → Type 0
+Fills source i i' before after (Ok n) = Brought (source.gives i) (source.gives i') before after n
+Fills source i i' before after (Err e) = source.broken i'

@@ -3,9 +3,7 @@
 
 pub mod ends;
 pub mod fault;
-mod filling;
 pub mod memory;
-mod played;
 mod playing;
 mod printing;
 mod pumping;

@@ -3,12 +3,12 @@ ghost use Rattle.std.specs.Prelude.{◌≡◌, ◌+◌, ◌^◌, ◌<◌, ◌≤
 ghost use Rattle.warehouse.specs.View.{known};
 ghost use Rattle.console.specs.Playing.{state, Nexts, Plays};
 
-use crate::ends::{Broken, Sink};
-use crate::played::Played;
-use crate::printing::print_then;
-use feed::outcome::Outcome;
+use crate::ends::Sink;
+use crate::printing::print;
+use feed::obeyed::Obeyed;
 use feed::run::step;
-use feed::state::Loading;
+use loads::open::OpenLoad;
+use std::ops::ControlFlow;
 use store::interface::Store;
 use warehouse::record::Warehouse;
 
@@ -28,49 +28,49 @@ fn is_ready(left: usize, last: bool) -> bool
 // The command at the front of the bytes, and its line: how many bytes it has, or none where the feed ends.
 fn obey_next<S: Store, O: Sink>(
     warehouse: &mut Warehouse<S>,
-    loading: Loading,
+    loading: Option<OpenLoad>,
     buffer: &mut [i64],
     bytes: &[u8],
     offset: u64,
     sink: &mut O,
-) -> (Loading, Result<Option<usize>, Broken>)
+) -> (Option<OpenLoad>, Result<Option<usize>, O::Error>)
     requires { 0 < length bytes.now }
-    ensures { Nexts (state (known S.Store.means warehouse.old) loading buffer.old) offset bytes.now (O.Sink.took sink.old) (O.Sink.took sink.new) (O.Sink.stuck sink.new) result.1 (state (known S.Store.means warehouse.new) result.0 buffer.new) }
+    ensures { Nexts (state (known S.Store.means warehouse.old) loading buffer.old) offset bytes.now O.Sink sink.old sink.new result.1 (state (known S.Store.means warehouse.new) result.0 buffer.new) }
 {
     let (loading, outcome) = step(warehouse, loading, buffer, bytes, offset);
-    match outcome {
-        Outcome::On(line, width) => (loading, print_then(sink, line, Some(width))),
-        Outcome::End(line) => (loading, print_then(sink, Some(line), None)),
-    }
+    let (line, width) = match outcome {
+        ControlFlow::Continue(Obeyed { line, width }) => (line, Some(width)),
+        ControlFlow::Break(line) => (Some(line), None),
+    };
+    (loading, print(sink, line).map(|()| width))
 }
 
-// As many commands as the bytes surely hold whole, or all of them if no more bytes come.
+// As many commands as the bytes surely hold whole, or all of them if no more bytes come: how many bytes they have, or none
+// where the feed ends.
 pub(crate) fn play<S: Store, O: Sink>(
     warehouse: &mut Warehouse<S>,
-    loading: Loading,
+    mut loading: Option<OpenLoad>,
     buffer: &mut [i64],
     bytes: &[u8],
     offset: u64,
     last: bool,
     sink: &mut O,
-) -> (Loading, Result<Played, Broken>)
+) -> (Option<OpenLoad>, Result<Option<usize>, O::Error>)
     requires { offset + length bytes.now < 2 ^ 64 }
-    ensures { Plays (state (known S.Store.means warehouse.old) loading buffer.old) offset bytes.now last (O.Sink.took sink.old) (O.Sink.took sink.new) (O.Sink.stuck sink.new) result.1 (state (known S.Store.means warehouse.new) result.0 buffer.new) }
+    ensures { Plays (state (known S.Store.means warehouse.old) loading buffer.old) offset bytes.now last O.Sink sink.old sink.new result.1 (state (known S.Store.means warehouse.new) result.0 buffer.new) }
 {
-    let mut loading = loading;
-    let mut at = 0;
-    'commands: while is_ready(bytes.len() - at, last) {
-        let here = offset + at as u64;
-        let (next, went) = obey_next(warehouse, loading, buffer, &bytes[at..], here, sink);
+    let mut rest = bytes;
+    let mut here = offset;
+    'commands: while is_ready(rest.len(), last) {
+        let (next, went) = obey_next(warehouse, loading, buffer, rest, here, sink);
         loading = next;
         let width = match went {
-            Ok(width) => width,
-            Err(broken) => return (loading, Err(broken)),
+            Ok(Some(width)) => width,
+            Ok(None) => return (loading, Ok(None)),
+            Err(error) => return (loading, Err(error)),
         };
-        match width {
-            Some(width) => at += width,
-            None => return (loading, Ok(Played::Over)),
-        }
+        rest = &rest[width..];
+        here += width as u64;
     }
-    (loading, Ok(Played::On(at)))
+    (loading, Ok(Some(bytes.len() - rest.len())))
 }

@@ -1,15 +1,14 @@
 // The pieces of a feed, from its source to its lines.
+ghost use Rattle.std.specs.Prelude.{None};
 ghost use Rattle.warehouse.specs.View.{known};
-ghost use Rattle.feed.specs.declared.state.Loading.TheVariants.{Idle};
 ghost use Rattle.console.specs.Playing.{state};
 ghost use Rattle.console.specs.Pumping.{Pumps};
 
 use crate::ends::{Sink, Source};
 use crate::fault::RunFault;
-use crate::played::Played;
 use crate::playing::play;
 use crate::window::Window;
-use feed::state::Loading;
+use loads::open::OpenLoad;
 use store::interface::Store;
 use warehouse::record::Warehouse;
 
@@ -19,42 +18,35 @@ pub(crate) fn pump<S: Store, I: Source, O: Sink>(
     buffer: &mut [i64],
     source: &mut I,
     sink: &mut O,
-) -> (Loading, Result<(), RunFault>)
-    ensures { Pumps (state (known S.Store.means warehouse.old) Idle buffer.old) (I.Source.gives source.old) (I.Source.gives source.new) (I.Source.broken source.new) (O.Sink.took sink.old) (O.Sink.took sink.new) (O.Sink.stuck sink.new) result.1 (state (known S.Store.means warehouse.new) result.0 buffer.new) }
+) -> (Option<OpenLoad>, Result<(), RunFault<I::Error, O::Error>>)
+    ensures { Pumps (state (known S.Store.means warehouse.old) None buffer.old) I.Source source.old source.new O.Sink sink.old sink.new result.1 (state (known S.Store.means warehouse.new) result.0 buffer.new) }
 {
-    let mut loading = Loading::Idle;
+    let mut loading = None;
     let mut window = Window::new();
     let mut offset = 0u64;
     'pieces: loop {
-        let Ok(many) = window.fill(source) else {
-            return (loading, Err(RunFault::Input));
+        let many = match window.fill(source) {
+            Ok(many) => many,
+            Err(error) => return (loading, Err(RunFault::Input(error))),
         };
-        if window.bytes().len() as u64 > u64::MAX - offset {
+        let bytes = window.bytes();
+        if offset.checked_add(bytes.len() as u64).is_none() {
             return (loading, Err(RunFault::Long));
         }
         let last = many == 0;
-        let (next, played) = play(
-            warehouse,
-            loading,
-            buffer,
-            window.bytes(),
-            offset,
-            last,
-            sink,
-        );
+        let (next, played) = play(warehouse, loading, buffer, bytes, offset, last, sink);
         loading = next;
-        let Ok(played) = played else {
-            return (loading, Err(RunFault::Output));
-        };
-        let Played::On(used) = played else {
-            return (loading, Ok(()));
+        let used = match played {
+            Ok(Some(used)) => used,
+            Ok(None) => return (loading, Ok(())),
+            Err(error) => return (loading, Err(RunFault::Output(error))),
         };
         if last {
             return (loading, Ok(()));
         }
-        let Ok(()) = sink.flush() else {
-            return (loading, Err(RunFault::Output));
-        };
+        if let Err(error) = sink.flush() {
+            return (loading, Err(RunFault::Output(error)));
+        }
         window.drop_front(used);
         offset += used as u64;
     }

@@ -18,21 +18,15 @@ pub fn resume<S: Store, I: Source, O: Sink>(
     buffer: &mut [i64],
     source: &mut I,
     sink: &mut O,
-) -> Result<(), RunFault>
-    ensures { Resumed (known S.Store.means warehouse.old) buffer.old (I.Source.gives source.old) (I.Source.gives source.new) (I.Source.broken source.new) (O.Sink.took sink.old) (O.Sink.took sink.new) (O.Sink.stuck sink.new) result (known S.Store.means warehouse.new) }
+) -> Result<(), RunFault<I::Error, O::Error>>
+    ensures { Resumed (known S.Store.means warehouse.old) buffer.old I.Source source.old source.new O.Sink sink.old sink.new result (known S.Store.means warehouse.new) }
 {
     let (loading, pumped) = pump(warehouse, buffer, source, sink);
     let line = end(loading);
-    if let Err(fault) = pumped {
-        return Err(fault);
-    }
-    let Ok(()) = print(sink, line) else {
-        return Err(RunFault::Output);
-    };
-    let Ok(()) = sink.flush() else {
-        return Err(RunFault::Output);
-    };
-    Ok(())
+    pumped?;
+    // closures: the variant's bare name gets no proof here, since the fault has the source's error as a parameter too
+    print(sink, line).map_err(|error| RunFault::Output(error))?;
+    sink.flush().map_err(|error| RunFault::Output(error))
 }
 
 // The law of a feed: on a store that can be founded at this size, whatever it is made of, the sink takes the lines that the
@@ -43,12 +37,10 @@ pub fn run<S: Store + Drop, I: Source, O: Sink>(
     buffer: &mut [i64],
     source: &mut I,
     sink: &mut O,
-) -> Result<(), RunFault>
-    ensures { Ran (S.Store.means store) size buffer.old (I.Source.gives source.old) (I.Source.gives source.new) (I.Source.broken source.new) (O.Sink.took sink.old) (O.Sink.took sink.new) (O.Sink.stuck sink.new) result }
+) -> Result<(), RunFault<I::Error, O::Error>>
+    ensures { Ran (S.Store.means store) size buffer.old I.Source source.old source.new O.Sink sink.old sink.new result }
 {
-    if let Err(refusal) = survey(&store, size) {
-        return Err(RunFault::Founding(refusal));
-    }
+    survey(&store, size).map_err(|refusal| RunFault::Founding(refusal))?;
     let mut warehouse = Warehouse::take_over(store, size);
     resume(&mut warehouse, buffer, source, sink)
 }

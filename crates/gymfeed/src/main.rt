@@ -3,8 +3,6 @@
 
 mod standard;
 
-use anyhow::anyhow;
-use console::fault::RunFault;
 use console::running::run;
 use holdback::held::HoldBack;
 use standard::{Input, Output};
@@ -20,13 +18,7 @@ fn fed(rt: &HostRuntime) -> anyhow::Result<()> {
     let mut input = Input::new(rt.stdin());
     let mut output = Output::new(rt.alloc(), rt.stdout())?;
     let store = HoldBack::new(Sparse::new(3, 1024));
-    match run(store, SIZE, &mut buffer, &mut input, &mut output) {
-        Ok(()) => Ok(()),
-        Err(RunFault::Founding(_)) => Err(anyhow!("the store is not empty")),
-        Err(RunFault::Input) => Err(input.error()),
-        Err(RunFault::Output) => Err(output.error()),
-        Err(RunFault::Long) => Err(anyhow!("the feed is longer than can be counted")),
-    }
+    run(store, SIZE, &mut buffer, &mut input, &mut output).map_err(anyhow::Error::msg)
 }
 
 fn main(rt: HostRuntime) -> anyhow::Result<()> {

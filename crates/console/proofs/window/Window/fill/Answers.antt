@@ -1,4 +1,4 @@
-use Rattle.std.proofs.Common.{take, ◌∙◌, arith, length-take, rules}
+use Rattle.std.proofs.Common.{◌++◌, take, ap, ◌∙◌, arith, length-take, rules}
 use Rattle.console.proofs.Fronts.{filled}
 use Rattle.console.proofs.window.Window.fill.Goals as goal
 
@@ -10,7 +10,7 @@ returns g c =
     record {
       got = take n ys;
       many = length-take n ys ∙ omega (arith, gave.within);
-      added = filled c.args.self.now.len _ n c.args.self.now.bytes ys (search rules) gave.within;
+      added = filled c.self.inside.len _ n c.self.inside.bytes ys (search rules) gave.within ∙ ap (λ xs. xs ++ take n ys) c.self.view_is;
       given = gave.before;
       some = gave.some;
       ended = λ e. gave.ended e (search rules);

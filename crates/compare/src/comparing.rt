@@ -16,7 +16,7 @@ fn lowest_difference<K: Store, F: Store>(first: &K, second: &F) -> Option<u32>
     ensures { MatchOption result (Shared (K.means first.now) (F.means second.now)) (DifferFirst (K.means first.now) (F.means second.now)) }
 {
     let count = cell_count(first.bands());
-    (0..count).find(|cell| first.read(*cell).ok() != second.read(*cell).ok())
+    (0..count).find(|cell| first.read(*cell) != second.read(*cell))
 }
 
 // The lowest cell in which two warehouses differ, if any. Whatever histories from founding brought them here, they agree

@@ -1,6 +1,5 @@
 -- The numbers of the feed's refusals, and the lines that they print.
-use Rattle.std.specs.Prelude.{ℕ, Ok, Err, Result}
-use Rattle.warehouse.specs.declared.fault.Refusal.{Refusal}
+use Rattle.std.specs.Prelude.{ℕ}
 use Rattle.warehouse.specs.Faults.{fault_number}
 use Rattle.feed.specs.declared.fault.Cause.{Cause}
 use Rattle.feed.specs.declared.fault.Cause.TheVariants.{Decode, Sequence, Warehouse}
@@ -16,8 +15,3 @@ cause_number (Warehouse r) = fault_number r.fault
 
 abbrev pub fault_line : FeedFault → Line
 fault_line f = Refused (cause_number f.cause) f.offset
-
--- an answer, or its refusal with the offset
-abbrev pub placed : {X : Type 0} → Result X Refusal → ℕ → Result X (Refusal × ℕ)
-placed (Ok x) offset = Ok x
-placed (Err e) offset = Err (e, offset)

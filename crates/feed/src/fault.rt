@@ -7,7 +7,7 @@ use warehouse::fault::Refusal;
 use wire::command::DecodeFault;
 use wire::line::Line;
 
-#[derive(Clone, Copy)]
+#[derive(Clone, Copy, PartialEq, Eq, Debug)]
 pub enum Cause {
     // no command can be read
     Decode(DecodeFault),
@@ -17,7 +17,7 @@ pub enum Cause {
     Warehouse(Refusal),
 }
 
-#[derive(Clone, Copy)]
+#[derive(Clone, Copy, PartialEq, Eq, Debug)]
 pub struct FeedFault {
     pub cause: Cause,
     pub offset: u64,

@@ -5,7 +5,7 @@ use wire::line::Line;
 // Its line, if it prints one, or why it is refused.
 pub(crate) type Reply = Result<Option<Line>, FeedFault>;
 
-#[derive(Clone, Copy)]
+#[derive(Clone, Copy, PartialEq, Eq, Debug)]
 pub struct Obeyed {
     // its line, if it prints one
     pub line: Option<Line>,

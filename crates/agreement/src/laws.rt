@@ -5,32 +5,22 @@ ghost use Rattle.agreement.specs.Laws.{LawsHold};
 ghost use Rattle.agreement.specs.Steps.{StepsHold};
 ghost use Rattle.agreement.specs.Worked.{WorkedHolds};
 
-pub fn agreement_stands() -> u8
+pub fn agreement_stands()
     ensures { AgreementHolds }
-{
-    0
-}
+{}
 
-pub fn steps_stand() -> u8
+pub fn steps_stand()
     ensures { StepsHold }
-{
-    0
-}
+{}
 
-pub fn worked_stands() -> u8
+pub fn worked_stands()
     ensures { WorkedHolds }
-{
-    0
-}
+{}
 
-pub fn edges_stand() -> u8
+pub fn edges_stand()
     ensures { EdgesHold }
-{
-    0
-}
+{}
 
-pub fn laws_stand() -> u8
+pub fn laws_stand()
     ensures { LawsHold }
-{
-    0
-}
+{}

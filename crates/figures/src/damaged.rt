@@ -1,7 +1,7 @@
 // Questions on damaged cells: they are refused, not answered.
 use store::interface::Store;
 use store::sparse::Sparse;
-use warehouse::fault::Fault;
+use warehouse::fault::{Fault, Refusal};
 use warehouse::record::Warehouse;
 
 // A store of one band with a sum and a difference over its first two minutes.
@@ -13,23 +13,19 @@ fn made(sum: i64, difference: i64) -> Warehouse<Sparse> {
 }
 
 pub(crate) fn ask(rt: &HostRuntime, sum: i64, difference: i64) -> anyhow::Result<()> {
-    let warehouse = made(sum, difference);
-    match warehouse.point(1) {
-        Ok(reading) => {
-            let value = reading.value;
-            let cells = reading.cells;
-            println!(rt;
-                "sum {sum}, difference {difference}: minute 1 is {value}, from {cells} cells"
-            )?;
-        }
-        Err(refusal) => {
-            let number = refusal.fault.number();
-            let cell = match refusal.fault {
-                Fault::Torn(cell) => cell,
-                _ => 0,
-            };
-            println!(rt; "sum {sum}, difference {difference}: refusal {number} at cell {cell}")?;
-        }
+    print!(rt; "sum {sum}, difference {difference}: ")?;
+    match made(sum, difference).point(1) {
+        Ok(reading) => println!(rt;
+            "minute 1 is {}, from {} cells",
+            reading.value, reading.cells
+        )?,
+        Err(
+            Refusal {
+                fault: Fault::Torn(cell),
+                ..
+            },
+        ) => println!(rt; "refusal {} at cell {cell}", Fault::Torn(cell).number())?,
+        Err(refusal) => println!(rt; "refusal {}", refusal.fault.number())?,
     }
     Ok(())
 }

@@ -5,11 +5,13 @@
 mod damaged;
 mod plain;
 
+use anyhow::bail;
 use flat::slice::Flat;
 use loads::loading::begin;
 use loads::open::{OpenLoad, RefusedLoad};
 use plain::recount;
 use store::interface::Store;
+use warehouse::fault::Refusal;
 use warehouse::record::Warehouse;
 
 const CELLS: usize = 1_118_480;
@@ -79,54 +81,52 @@ fn chance(seed: u64) -> i64 {
     let mixed = seed
         .wrapping_mul(6_364_136_223_846_793_005)
         .wrapping_add(1_442_695_040_888_963_407);
-    i64::from((mixed >> 33) as u32) - 1_073_741_824
+    (mixed >> 33).cast_signed() - 1_073_741_824
 }
 
-// Gives the load its values, from the lowest minute on.
-fn filled(mut load: OpenLoad, buffer: &mut [i64], minutes: &mut [i64], case: Case) -> OpenLoad {
+// Gives the load its values, from the lowest minute on. A refused value ends it.
+fn filled(
+    mut load: OpenLoad,
+    buffer: &mut [i64],
+    minutes: &mut [i64],
+    case: Case,
+) -> Result<OpenLoad, Refusal> {
     let many = 1u32 << case.level.min(12);
+    let first = case.index.saturating_mul(many);
     for place in 0..many {
         let value = chance(u64::from(case.index) * 4099 + u64::from(place));
-        let minute = case.index.saturating_mul(many).saturating_add(place) as usize;
-        if minute < minutes.len() {
-            minutes[minute] = value;
+        if let Some(minute) = minutes.get_mut(first.saturating_add(place) as usize) {
+            *minute = value;
         }
-        load = match load.value(buffer, value) {
-            Ok(next) => next,
-            Err(back) => {
-                let RefusedLoad { load, refusal: _ } = back;
-                load
-            }
-        };
+        load = load.value(buffer, value).map_err(given_up)?;
     }
-    load
+    Ok(load)
 }
 
-// The cells that the load wrote, or 0 where it was refused.
-fn loaded<S: Store + Drop>(store: S, buffer: &mut [i64], minutes: &mut [i64], case: Case) -> u32 {
+// The refusal of a load that is given up for it.
+fn given_up(back: RefusedLoad) -> Refusal {
+    let RefusedLoad { load, refusal } = back;
+    let _ = load.give_up();
+    refusal
+}
+
+// The cells that the load wrote.
+fn loaded<S: Store + Drop>(
+    store: S,
+    buffer: &mut [i64],
+    minutes: &mut [i64],
+    case: Case,
+) -> Result<u32, Refusal> {
     let mut warehouse = Warehouse::take_over(store, case.size);
-    match begin(&warehouse, case.level, case.index) {
-        Err(_) => 0,
-        Ok(load) => match filled(load, buffer, minutes, case).finish(&mut warehouse, buffer) {
-            Ok(written) => written,
-            Err(back) => {
-                let RefusedLoad { load, refusal: _ } = back;
-                let _ = load.give_up();
-                0
-            }
-        },
-    }
+    let load = begin(&warehouse, case.level, case.index)?;
+    filled(load, buffer, minutes, case)?
+        .finish(&mut warehouse, buffer)
+        .map_err(given_up)
 }
 
 // How many of the numbers differ.
-fn differences(first: &[i64], second: &[i64]) -> u64 {
-    let mut many = 0u64;
-    for (a, b) in first.iter().zip(second.iter()) {
-        if *a != *b {
-            many = many.saturating_add(1);
-        }
-    }
-    many
+fn differences(first: &[i64], second: &[i64]) -> usize {
+    first.iter().zip(second).filter(|(a, b)| *a != *b).count()
 }
 
 fn try_case(rt: &HostRuntime, case: Case) -> anyhow::Result<()> {
@@ -134,13 +134,16 @@ fn try_case(rt: &HostRuntime, case: Case) -> anyhow::Result<()> {
     let mut expected = vec![in rt.alloc(); 0i64; CELLS]?;
     let mut minutes = vec![in rt.alloc(); 0i64; MINUTES]?;
     let mut buffer = vec![in rt.alloc(); 0i64; CHUNK]?;
-    let written = loaded(Flat::new(&mut cells), &mut buffer, &mut minutes, case);
+    let written = match loaded(Flat::new(&mut cells), &mut buffer, &mut minutes, case) {
+        Ok(written) => written,
+        Err(refusal) => bail!("the load is refused with {}", refusal.fault.number()),
+    };
     recount(&mut minutes, case.size, &mut expected);
-    let many = differences(&cells, &expected);
-    let level = case.level;
-    let size = case.size;
     println!(rt;
-        "level {level} at size {size}: {written} cells written, {many} cells differ from the recount"
+        "level {} at size {}: {written} cells written, {} cells differ from the recount",
+        case.level,
+        case.size,
+        differences(&cells, &expected)
     )?;
     Ok(())
 }

@@ -12,15 +12,16 @@ fn before(band: usize) -> usize {
 }
 
 fn put(cells: &mut [i64], at: usize, number: i64) {
-    if at < cells.len() {
-        cells[at] = number;
+    if let Some(cell) = cells.get_mut(at) {
+        *cell = number;
     }
 }
 
 // One level up: sums of pairs take the place of the sums below, and their differences go to their cells.
-fn level_up(sums: &mut [i64], level: u8, many: usize, cells: &mut [i64]) {
-    let band = (level.saturating_sub(1) / 4) as usize;
-    let width = 1usize << (4 * band + 4).saturating_sub(level as usize).min(3);
+fn level_up(sums: &mut [i64], level: usize, many: usize, cells: &mut [i64]) {
+    let band = level.saturating_sub(1) / 4;
+    let width = 1usize << (4 * band + 4).saturating_sub(level).min(3);
+    // a pair's two places and the place of its sum are three of one slice: an index names them plainest
     for k in 0..many.min(sums.len() / 2) {
         let left = sums[2 * k];
         let right = sums[2 * k + 1];
@@ -36,26 +37,26 @@ fn level_up(sums: &mut [i64], level: u8, many: usize, cells: &mut [i64]) {
 
 // The sums of the tiles of a band, whose level has been reached.
 fn tile_sums(sums: &[i64], band: usize, many: usize, cells: &mut [i64]) {
-    for k in 0..many.min(sums.len()) {
+    for (k, sum) in sums.iter().take(many).enumerate() {
         put(
             cells,
             before(band).saturating_add(k).saturating_mul(16),
-            sums[k],
+            *sum,
         );
     }
 }
 
 // All cells at a size; the minutes are used up.
 pub(crate) fn recount(minutes: &mut [i64], size: u8, cells: &mut [i64]) {
-    let size = size.min(20);
+    let size = usize::from(size.min(20));
     if size == 0 {
         tile_sums(minutes, 0, 1, cells);
     }
-    for level in 1..size + 1 {
+    for level in 1..=size {
         let many = 1usize << (size - level);
         level_up(minutes, level, many, cells);
         if level % 4 == 0 || level == size {
-            tile_sums(minutes, ((level - 1) / 4) as usize, many, cells);
+            tile_sums(minutes, (level - 1) / 4, many, cells);
         }
     }
 }

@@ -1,2 +1,3 @@
 pub mod Slice
+pub mod Laws
 pub mod FlatMeaning

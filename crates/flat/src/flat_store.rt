@@ -3,6 +3,7 @@ ghost use Rattle.std.specs.Prelude.{◌≡◌};
 ghost use Rattle.store.specs.Meaning.{Settles, Writes};
 ghost use Rattle.flat.specs.FlatMeaning.{flat_means};
 ghost use Rattle.flat.specs.Slice.{Placed};
+ghost use Rattle.flat.specs.Laws.{slice_lawful};
 
 use crate::slice::Flat;
 use crate::zeros::zeros_after;
@@ -12,6 +13,8 @@ use store::interface::Store;
 
 impl Store for Flat<'_> {
     ghost means = { flat_means };
+
+    ghost laws = { λ s. slice_lawful s.numbers.now s.bands s.zeros s.few s.counted };
 
     fn bands(&self) -> u8 {
         self.bands
@@ -35,6 +38,7 @@ impl Store for Flat<'_> {
             return Err(CellFault::Cell(cell));
         }
         let zeros = zeros_after(self.zeros, self.numbers[cell as usize], value);
+        // in parts, since a write through `self.numbers` would need the count right before it too
         let Flat {
             numbers,
             zeros: kept,

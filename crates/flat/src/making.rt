@@ -35,9 +35,10 @@ impl<'a> Flat<'a> {
 fn most_bands(numbers: usize) -> u8
     ensures { Greatest numbers result }
 {
-    let mut bands = 5;
-    while bands > 0 && numbers < cell_count(bands) as usize {
-        bands -= 1;
+    for bands in (1..=5).rev() {
+        if cell_count(bands) as usize <= numbers {
+            return bands;
+        }
     }
-    bands
+    0
 }

@@ -14,14 +14,6 @@ fn written(numbers: &mut [i64], cell: u32, value: i64) -> Result<(), CellFault>
     store.write(cell, value)
 }
 
-// The number of a refusal, and 0 for none.
-fn refusal(answer: Result<(), CellFault>) -> u8 {
-    match answer {
-        Ok(()) => 0,
-        Err(fault) => fault.number(),
-    }
-}
-
 #[test]
 fn twenty_numbers_are_one_band(rt: HostRuntime) {
     assert_eq!(rt; Flat::new(&mut [0; 15]).bands(), 0);
@@ -32,9 +24,9 @@ fn twenty_numbers_are_one_band(rt: HostRuntime) {
 fn reads_what_was_written(rt: HostRuntime) {
     let mut numbers = [0; 20];
     let mut store = Flat::new(&mut numbers);
-    assert_eq!(rt; refusal(store.write(15, -7)), 0);
-    assert_eq!(rt; store.read(15).ok(), Some(-7));
-    assert_eq!(rt; store.read(14).ok(), Some(0));
+    assert_eq!(rt; store.write(15, -7), Ok(()));
+    assert_eq!(rt; store.read(15), Ok(-7));
+    assert_eq!(rt; store.read(14), Ok(0));
     assert!(rt; store.fits(15));
     assert!(rt; !store.fits(16));
 }
@@ -42,9 +34,12 @@ fn reads_what_was_written(rt: HostRuntime) {
 #[test]
 fn refuses_what_lies_past_the_cells(rt: HostRuntime) {
     let mut numbers = [9; 20];
-    assert!(rt; Flat::new(&mut numbers).read(16).is_err());
-    assert_eq!(rt; refusal(written(&mut numbers, 16, 1)), 19);
-    assert_eq!(rt; refusal(written(&mut numbers, 15, 1)), 0);
+    assert_eq!(rt; Flat::new(&mut numbers).read(16), Err(CellFault::Cell(16)));
+    assert_eq!(rt;
+        written(&mut numbers, 16, 1).map_err(CellFault::number),
+        Err(19)
+    );
+    assert_eq!(rt; written(&mut numbers, 15, 1), Ok(()));
     assert_eq!(rt; numbers[15], 1);
     assert_eq!(rt; numbers[16], 9);
 }
@@ -54,8 +49,8 @@ fn is_never_full(rt: HostRuntime) {
     let mut numbers = [1; 16];
     let mut store = Flat::new(&mut numbers);
     assert!(rt; !store.fits(1));
-    assert_eq!(rt; refusal(store.write(3, 5)), 0);
-    assert_eq!(rt; refusal(store.write(3, 0)), 0);
+    assert_eq!(rt; store.write(3, 5), Ok(()));
+    assert_eq!(rt; store.write(3, 0), Ok(()));
     assert!(rt; store.fits(1));
-    assert_eq!(rt; refusal(store.write(3, 5)), 0);
+    assert_eq!(rt; store.write(3, 5), Ok(()));
 }

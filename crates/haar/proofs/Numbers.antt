@@ -22,9 +22,6 @@ same_pow i j e = ap (λ x. 2 ^ x) e
 pub before_rises : (d : ℕ) → tiles_before d ≤ tiles_before (suc d)
 before_rises d = omega (arith, before_suc d)
 
-pow_rises : (h : ℕ) → 2 ^ h ≤ 2 ^ suc h
-pow_rises h = omega (arith, two-pow-succ h)
-
 -- a coefficient of a store whose top band is `top`
 abbrev pub Placed : ℕ → Coefficient → Type 0
 Placed top (TileSum t k) = (t ≤ top) × (k < 16 ^ (top - t))
@@ -41,7 +38,7 @@ unplace top t k s t' k' s' a b c a' b' c' e =
 -- a slot past 0 tells the level and the place in it
 unslot : (h r h' r' : ℕ) → r < 2 ^ h → r' < 2 ^ h' → 2 ^ h + r ≡ 2 ^ h' + r' → (h ≡ h') × (r ≡ r')
 unslot h r h' r' b b' e =
-    let d : h ≡ h' = same_step (λ x. 2 ^ x) pow_rises h h' (2 ^ h + r) (omega arith) (omega (arith, two-pow-succ h)) (omega arith) (omega (arith, two-pow-succ h')) in
+    let d : h ≡ h' = same_step (λ x. 2 ^ x) (λ h. pow_mono (omega arith)) h h' (2 ^ h + r) (omega arith) (omega (arith, two-pow-succ h)) (omega arith) (omega (arith, two-pow-succ h')) in
     let f : 2 ^ h ≡ 2 ^ h' = ap (λ x. 2 ^ x) d in
     (d, omega arith)
 
@@ -88,7 +85,7 @@ at_diff top d k h r a b c g =
 
 at_slot : (top d k s : ℕ) → d ≤ top → k < 16 ^ d → s < 16 → (x : Coefficient) × Placed top x × (cell_number (suc top) x ≡ 16 * (tiles_before d + k) + s)
 at_slot top d k s a b c =
-    ⊎_elim (λ (p : 0 < s). other (find_step (λ x. 2 ^ x) pow_rises 3 s p c))
+    ⊎_elim (λ (p : 0 < s). other (find_step (λ x. 2 ^ x) (λ h. pow_mono (omega arith)) 3 s p c))
     (λ (z : s ≤ 0). let w = at_whole top d k a b in (w.0, w.1, omega arith)) (cases_lt 0 s)
   where
     other : (h : ℕ) × (h ≤ 3) × (2 ^ h ≤ s) × (s < 2 ^ suc h) → (x : Coefficient) × Placed top x × (cell_number (suc top) x ≡ 16 * (tiles_before d + k) + s)

@@ -8,14 +8,7 @@ pub fn tiles_before(above: u8) -> u32
     ensures is { result ≡ tiles_before (min above 5) }
     ensures most { result ≤ 69905 }
 {
-    match above {
-        0 => 0,
-        1 => 1,
-        2 => 17,
-        3 => 273,
-        4 => 4_369,
-        _ => 69_905,
-    }
+    ((1 << (4 * above.min(5))) - 1) / 15
 }
 
 // How many cells a store of these bands has; no store has more than five bands.

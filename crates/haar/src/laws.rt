@@ -2,81 +2,55 @@
 ghost use Rattle.haar.specs.Laws.{Numbered, Determined, Computed, Linear, Halved, ShiftSplit, Grows, Counted, Loads, Reads, Shifts, RunSound};
 ghost use Rattle.haar.specs.Figures.{Figures};
 
-pub fn numbered_stands() -> u8
+pub fn numbered_stands()
     ensures { Numbered }
-{
-    0
-}
+{}
 
-pub fn determined_stands() -> u8
+pub fn determined_stands()
     ensures { Determined }
-{
-    0
-}
+{}
 
-pub fn computed_stands() -> u8
+pub fn computed_stands()
     ensures { Computed }
-{
-    0
-}
+{}
 
-pub fn linear_stands() -> u8
+pub fn linear_stands()
     ensures { Linear }
-{
-    0
-}
+{}
 
-pub fn halved_stands() -> u8
+pub fn halved_stands()
     ensures { Halved }
-{
-    0
-}
+{}
 
-pub fn shift_split_stands() -> u8
+pub fn shift_split_stands()
     ensures { ShiftSplit }
-{
-    0
-}
+{}
 
-pub fn grows_stands() -> u8
+pub fn grows_stands()
     ensures { Grows }
-{
-    0
-}
+{}
 
-pub fn counted_stands() -> u8
+pub fn counted_stands()
     ensures { Counted }
-{
-    0
-}
+{}
 
-pub fn loads_stands() -> u8
+pub fn loads_stands()
     ensures { Loads }
-{
-    0
-}
+{}
 
-pub fn reads_stands() -> u8
+pub fn reads_stands()
     ensures { Reads }
-{
-    0
-}
+{}
 
-pub fn shifts_stands() -> u8
+pub fn shifts_stands()
     ensures { Shifts }
-{
-    0
-}
+{}
 
-pub fn run_stands() -> u8
+pub fn run_stands()
     ensures { RunSound }
-{
-    0
-}
+{}
 
 // The worked figures.
-pub fn figures_stand() -> u8
+pub fn figures_stand()
     ensures { Figures }
-{
-    0
-}
+{}

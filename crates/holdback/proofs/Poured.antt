@@ -9,8 +9,9 @@ use Rattle.store.specs.declared.fault.CellFault.{CellFault}
 use Rattle.store.specs.Meaning.{Meaning, weight, Bars, Same, Put, Writes, Settles}
 use Rattle.store.specs.Table.{entry_at}
 use Rattle.holdback.specs.Over.{fresh, held_over}
-use Rattle.holdback.proofs.Tidy.{Tidy, tidy_part}
-use Rattle.holdback.proofs.Counted.{weight_one, over_here, over_other, alike_none}
+use Rattle.store.proofs.Tidy.{Tidy, tidy_part}
+use Rattle.store.proofs.Counting.{weight_one}
+use Rattle.holdback.proofs.Counted.{over_here, over_other, alike_none}
 use Rattle.holdback.proofs.Holding.{held_puts}
 
 inside_of : (a b : Meaning) (c : ℕ) → b.bands ≡ a.bands → c < cell_count a.bands → c < cell_count b.bands

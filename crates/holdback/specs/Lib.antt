@@ -1,2 +1,3 @@
 pub mod Over
-pub mod Places
+pub mod Laws
+pub mod Layer

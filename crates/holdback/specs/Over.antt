@@ -4,9 +4,8 @@
 --   fresh N es n x     how many of the first n entries are for a cell below N that is zero in x
 --   held_over es n m   what the first n entries over a store that means m mean as a store
 --   Alike m n          n is m in all that a store is known by
---   ZeroAt m c r       r says whether the store m has the cell c, and it is zero
---   Forgotten          a table without its entry for a cell, if it had one
-use Rattle.std.specs.Prelude.{◌≡◌, ℕ, zero, suc, ◌+◌, ◌-◌, ◌<◌, Bool, true, false, cond, List, ℤ, pos, negsuc, ◌-ℤ◌, ◌==◌, ◌≢◌, nat_lt}
+--   zero_at m c        whether the store m has the cell c, and it is zero
+use Rattle.std.specs.Prelude.{◌≡◌, ℕ, zero, suc, ◌+◌, ◌-◌, Bool, false, cond, List, ℤ, pos, negsuc, ◌-ℤ◌, ◌==◌, ◌&&◌, nat_lt}
 use Rattle.haar.specs.Tiles.{cell_count}
 use Rattle.store.specs.declared.entry.Entry.{Entry}
 use Rattle.store.specs.Meaning.{Meaning, Same, weight}
@@ -42,11 +41,5 @@ pub record Alike (m n : Meaning) : Type 0 where
   pub clean : n.clean ≡ m.clean
 
 -- a cell that is refused is not zero
-pub record ZeroAt (m : Meaning) (c : ℕ) (r : Bool) : Type 0 where
-  pub yes : r ≡ true → (c < cell_count m.bands) × (m.cells c ≡ pos 0)
-  pub none : r ≡ false → c < cell_count m.bands → m.cells c ≢ pos 0
-
--- the first k entries of fs are the first n of es without that of cell c
-pub record Forgotten (es : List Entry) (n c : ℕ) (fs : List Entry) (k : ℕ) : Type 0 where
-  pub gone : lookup fs k c ≡ pos 0
-  pub others : (d : ℕ) → (d ≢ c) → lookup fs k d ≡ lookup es n d
+abbrev pub zero_at : Meaning → ℕ → Bool
+zero_at m c = nat_lt c (cell_count m.bands) && (weight (m.cells c) == 0)

@@ -1,17 +1,18 @@
 // The layer's calls as a store.
 ghost use Rattle.std.specs.Prelude.{◌≡◌, pos, ◌<ℤ◌, ◌≢◌};
 ghost use Rattle.store.specs.Meaning.{Writes, Settles};
-ghost use Rattle.holdback.specs.Over.{held_over};
-ghost use Rattle.holdback.specs.Places.{Goes, Untouched};
+ghost use Rattle.holdback.specs.Laws.{layer_lawful};
+ghost use Rattle.holdback.specs.Layer.{layer_means, Goes, Untouched};
 
-use crate::held::HoldBack;
-use crate::table::find;
+use crate::held::{HoldBack, MOST};
 use haar::cells::cell_count;
 use store::fault::CellFault;
 use store::interface::Store;
 
 impl<S: Store> Store for HoldBack<S> {
-    ghost means = { λ h. held_over h.held h.used (S.Store.means h.below) };
+    ghost means = { layer_means S.Store.means };
+
+    ghost laws = { λ h. layer_lawful _ _ _ (S.Store.laws h.below) };
 
     fn bands(&self) -> u8 {
         self.below.bands()
@@ -19,38 +20,29 @@ impl<S: Store> Store for HoldBack<S> {
 
     fn read(&self, cell: u32) -> Result<i64, CellFault> {
         let below = self.below.read(cell)?;
-        match find(&self.held, self.used as usize, cell) {
-            Ok(at) => Ok(self.held[at].value),
-            Err(_) => Ok(below),
-        }
+        Ok(self.held.get(cell).unwrap_or(below))
     }
 
     // A number is held if its cell is held already or an entry is free, and else goes below; zero goes to both.
     fn write(&mut self, cell: u32, value: i64) -> Result<(), CellFault>
-        ensures writes { Writes (held_over self.old.held self.old.used (S.Store.means self.old.below)) cell value result (held_over self.new.held self.new.used (S.Store.means self.new.below)) }
-        ensures goes { (value ≢ pos 0) → Goes cell self.old.held self.old.used self.old.below self.new.held self.new.used self.new.below }
+        ensures writes { Writes (layer_means S.Store.means self.old) cell value result (layer_means S.Store.means self.new) }
+        ensures goes { (value ≢ pos 0) → Goes cell self.old self.new }
     {
         if cell >= cell_count(self.below.bands()) {
             return Err(CellFault::Cell(cell));
         }
         if value == 0 {
-            self.clear(cell);
-            return Ok(());
+            self.held.remove(cell);
+            return self.below.write(cell, 0);
         }
-        match find(&self.held, self.used as usize, cell) {
-            Ok(at) => self.change(at, value),
-            Err(at) => {
-                if self.is_zero_below(cell) && !self.has_room(1) {
-                    return Err(CellFault::Full(cell));
-                }
-                if self.is_full() {
-                    self.pass(cell, value);
-                } else {
-                    self.hold(at, cell, value);
-                }
-            }
+        if self.is_barred(cell) {
+            return Err(CellFault::Full(cell));
         }
-        Ok(())
+        // no `or_else`, since after it the proof cannot name what its closure left below
+        match self.held.put(cell, value, MOST) {
+            Ok(()) => Ok(()),
+            Err(_) => self.below.write(cell, value),
+        }
     }
 
     fn fits(&self, more: u32) -> bool {
@@ -58,13 +50,13 @@ impl<S: Store> Store for HoldBack<S> {
     }
 
     fn is_clean(&self) -> bool {
-        self.used == 0 && self.below.is_clean()
+        self.held.entries().is_empty() && self.below.is_clean()
     }
 
     // Without room for what is held nothing is done, here and below.
     fn settle(&mut self)
-        ensures settles { Settles (held_over self.old.held self.old.used (S.Store.means self.old.below)) (held_over self.new.held self.new.used (S.Store.means self.new.below)) }
-        ensures waits { (held_over self.old.held self.old.used (S.Store.means self.old.below)).room <ℤ pos 0 → Untouched self.old.held self.old.used self.old.below self.new.held self.new.used self.new.below }
+        ensures settles { Settles (layer_means S.Store.means self.old) (layer_means S.Store.means self.new) }
+        ensures waits { (layer_means S.Store.means self.old).room <ℤ pos 0 → Untouched self.old self.new }
     {
         if !self.has_room(0) {
             return;

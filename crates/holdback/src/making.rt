@@ -1,21 +1,21 @@
 // The layer put over a store, and taken off again.
 ghost use Rattle.std.specs.Prelude.{◌≡◌};
-ghost use Rattle.holdback.specs.Over.{held_over, Alike};
+ghost use Rattle.holdback.specs.Over.{Alike};
+ghost use Rattle.holdback.specs.Layer.{layer_means};
 
-use crate::held::{HoldBack, MOST};
-use store::entry::EMPTY;
+use crate::held::HoldBack;
 use store::interface::Store;
+use store::table::Table;
 
 impl<S: Store> HoldBack<S> {
     // Holds none at first, so it means what the store below means.
     pub fn new(below: S) -> HoldBack<S>
         ensures over { result.below ≡ below }
-        ensures alike { Alike (S.Store.means below) (held_over result.held result.used (S.Store.means result.below)) }
+        ensures alike { Alike (S.Store.means below) (layer_means S.Store.means result) }
     {
         HoldBack {
             below,
-            held: [EMPTY; MOST],
-            used: 0,
+            held: Table::new(),
         }
     }
 
@@ -23,11 +23,7 @@ impl<S: Store> HoldBack<S> {
     pub fn into_inner(self) -> S
         ensures { result ≡ self.below }
     {
-        let HoldBack {
-            below,
-            held: _,
-            used: _,
-        } = self;
+        let HoldBack { below, held: _ } = self;
         below
     }
 }

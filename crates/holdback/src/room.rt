@@ -1,51 +1,48 @@
-// How much room the layer has: the entries that are free, and the room below, less the held cells that are zero below.
-ghost use Rattle.std.specs.Prelude.{◌≡◌, ◌<◌, ◌≤◌, true, false};
+// How much room the layer has: the room below, less the held cells that are zero below.
+ghost use Rattle.std.specs.Prelude.{◌≡◌, ◌<◌, ◌≤◌, ◌≢◌, ℤ, pos, true, false};
 ghost use Rattle.haar.specs.Tiles.{cell_count};
-ghost use Rattle.store.specs.Meaning.{Fits};
-ghost use Rattle.holdback.specs.Over.{fresh, held_over, ZeroAt};
+ghost use Rattle.store.specs.Meaning.{Fits, Bars};
+ghost use Rattle.holdback.specs.Over.{fresh, zero_at};
+ghost use Rattle.holdback.specs.Layer.{layer_means};
 
-use crate::held::{HoldBack, MOST};
+use crate::held::HoldBack;
 use store::interface::Store;
 
 impl<S: Store> HoldBack<S> {
-    // Whether no entry is free.
-    pub(crate) fn is_full(&self) -> bool
-        ensures yes { result ≡ true → 64 ≤ self.now.used }
-        ensures none { result ≡ false → self.now.used < 64 }
-    {
-        self.used as usize == MOST
-    }
-
     // Whether the store below has the cell, and it is zero there.
-    pub(crate) fn is_zero_below(&self, cell: u32) -> bool
-        ensures { ZeroAt (S.Store.means self.now.below) cell result }
+    fn is_zero_below(&self, cell: u32) -> bool
+        ensures { result ≡ zero_at (S.Store.means self.now.below) cell }
     {
-        match self.below.read(cell) {
-            Ok(number) => number == 0,
-            Err(_) => false,
-        }
+        matches!(self.below.read(cell), Ok(0))
     }
 
     // How many held numbers are for a cell that is zero below.
-    fn count_fresh(&self) -> u32
+    fn count_fresh(&self) -> usize
         ensures few { result ≤ 64 }
-        ensures is { result ≡ fresh (cell_count (S.Store.means self.now.below).bands) self.now.held self.now.used (S.Store.means self.now.below).cells }
+        ensures is { result ≡ fresh (cell_count (S.Store.means self.now.below).bands) self.now.held.entries self.now.held.used (S.Store.means self.now.below).cells }
     {
-        let mut count = 0;
-        for i in 0..self.used as usize {
-            if self.is_zero_below(self.held[i].cell) {
-                count += 1;
-            }
-        }
-        count
+        self.held
+            .entries()
+            .iter()
+            .filter(|entry| self.is_zero_below(entry.cell))
+            .count()
     }
 
     // Whether so many more cells may go from zero to nonzero.
     pub(crate) fn has_room(&self, more: u32) -> bool
-        ensures { Fits (held_over self.now.held self.now.used (S.Store.means self.now.below)) more result }
+        ensures { Fits (layer_means S.Store.means self.now) more result }
     {
-        // a store's bands come with its law: room is at most 2^21, so the sum may stop at the largest number
-        let _ = self.below.bands();
-        self.below.fits(more.saturating_add(self.count_fresh()))
+        // room is at most 2^21, so the sum may stop at the largest number
+        self.below
+            .fits(more.saturating_add(self.count_fresh() as u32))
+    }
+
+    // Whether a number other than zero needs room in the cell, and there is none.
+    pub(crate) fn is_barred(&self, cell: u32) -> bool
+        requires { cell < cell_count (S.Store.means self.now.below).bands }
+        ensures yes { result ≡ true → (v : ℤ) → (v ≢ pos 0) → Bars (layer_means S.Store.means self.now) cell v }
+        ensures none { result ≡ false → (v : ℤ) → Bars (layer_means S.Store.means self.now) cell v → ⊥ }
+    {
+        self.held.get(cell).is_none() && self.is_zero_below(cell) && !self.has_room(1)
     }
 }

@@ -1,24 +1,25 @@
 -- From a check that passed to a load that is full, or taken.
-use Rattle.std.proofs.Common.{◌≡◌, ℕ, ◌*◌, ◌≤◌, List, ℤ, pos, ◌≤ℤ◌, ◌<ℤ◌, sym, subst}
+use Rattle.std.proofs.Common.{◌≡◌, ℕ, ◌*◌, ◌≤◌, Ok, Err, Result, ℤ, pos, ◌≤ℤ◌, ◌<ℤ◌, sym, subst, arith}
+use Rattle.std.specs.Result.{MatchResult, IsErrAnd}
+use Rattle.warehouse.specs.declared.fault.Fault.{Fault}
+use Rattle.warehouse.specs.declared.fault.Fault.TheVariants.{Large}
 use Rattle.haar.specs.Tiles.{cell_count}
 use Rattle.haar.specs.Load.{Chunk, Loaded}
 use Rattle.haar.specs.Count.{W}
-use Rattle.loads.specs.Share.{minutes}
 use Rattle.haar.proofs.Load.{some_load}
 use Rattle.store.specs.Meaning.{Meaning}
-use Rattle.loads.specs.Loads.{fresh, Large, Clears, Stored}
-use Rattle.loads.specs.Adds.{Crowded, Took}
+use Rattle.loads.specs.Loads.{fresh, Clears, Checked, Stored}
+use Rattle.loads.specs.Adds.{Crowded, Faulty, Took}
 
--- the same data under another name
-module _ (T n m p : ℕ) (zs zs' : List ℤ) (e : zs ≡ zs') where
-  pub same_large : (x : ℕ → ℤ) (c : ℕ) → Large T n m p (minutes m p zs) x c → Large T n m p (minutes m p zs') x c
-  same_large x c h = subst (λ z. Large T n m p (minutes m p z) x c) e h
+-- what the check answered, from its answer with a fault for the cell
+module _ (T n m p : ℕ) (g : ℕ → ℤ) (before : Meaning) (q : Result ℕ Fault) (post : ℕ → Fault → Type 0) where
+  pub all_clear : (r : Result ℕ ℕ) (k : ℕ) → MatchResult r (λ x. q ≡ Ok x) (λ e. IsErrAnd q (post e)) → q ≡ Ok k → Checked T n m p g before.cells r → Clears T n m p g before.cells k
+  all_clear (Ok x) k h e c = let s : x ≡ k = cc in subst (Clears T n m p g before.cells) s c
+  all_clear (Err x) k h e c = absurd (rw e at h)
 
-  pub same_clears : (x : ℕ → ℤ) (k : ℕ) → Clears T n m p (minutes m p zs) x k → Clears T n m p (minutes m p zs') x k
-  same_clears x k h = subst (λ z. Clears T n m p (minutes m p z) x k) e h
-
-  pub same_stored : (before after : Meaning) → Stored T n m p (minutes m p zs) before after → Stored T n m p (minutes m p zs') before after
-  same_stored before after h = subst (λ z. Stored T n m p (minutes m p z) before after) e h
+  pub one_large : (r : Result ℕ ℕ) (f : Fault) → ((c : ℕ) → post c f → f ≡ Large c) → MatchResult r (λ x. q ≡ Ok x) (λ e. IsErrAnd q (post e)) → q ≡ Err f → Checked T n m p g before.cells r → Faulty T n m p g before f
+  one_large (Ok x) f at h e c = absurd (let z : ◌≡◌ {A = ℕ} 0 1 = cc in omega arith)
+  one_large (Err x) f at h e c = let k = at x (rw e at h) in rw k c
 
 module _ (T n m p : ℕ) (g : ℕ → ℤ) (before : Meaning) (k : ℕ) (clears : Clears T n m p g before.cells k) where
   pub crowded : 1 ≤ T → n ≤ 4 * T → m ≤ n → Chunk m p g → before.room <ℤ pos k → Crowded T n m p g before

@@ -1,5 +1,5 @@
 -- The cells of a growth, and writing the total to them.
-use Rattle.std.proofs.Common.{◌≡◌, ℕ, suc, ◌+◌, ◌-◌, ◌*◌, ◌/◌, ◌^◌, ◌<◌, ◌≤◌, Bool, true, false, cond, ℤ, pos, ◌+ℤ◌, ◌≤ℤ◌, Some, None, Option, sym, refl, ap, ◌∙◌, subst, ap₂, inl, inr, ⊎_elim, arith, pow_pos}
+use Rattle.std.proofs.Common.{◌≡◌, ℕ, suc, ◌+◌, ◌-◌, ◌*◌, ◌/◌, ◌^◌, ◌<◌, ◌≤◌, Bool, true, false, cond, ℤ, pos, ◌+ℤ◌, ◌≤ℤ◌, Some, None, Option, sym, refl, ap, ◌∙◌, subst, ap₂, inl, inr, ⊎_elim, ◌⊎◌, arith, pow_pos}
 use native.Mathlib.Nat.{zero-div}
 use Rattle.std.proofs.lemmas.Int.{ints}
 use Rattle.std.proofs.lemmas.Bool.{cases_eq}
@@ -129,3 +129,53 @@ bars_at m c c' z z' e f h b = h (subst (λ x. Bars m x z) e (subst (λ y. Bars m
 
 pub put_at : (m m' : Meaning) (c c' : ℕ) (z z' : ℤ) → c' ≡ c → z' ≡ z → Put m c' z' m' → Put m c z m'
 put_at m m' c c' z z' e f p = subst (λ x. Put m x z m') e (subst (λ y. Put m c' y m') f p)
+
+-- a cell of the growth, in a store of its bands
+pub cell_below : (m : Meaning) (T c at : ℕ) → m.bands ≡ T → at ≡ c → c < cell_count T → at < cell_count m.bands
+cell_below m T c at b e l = subst (λ x. x < cell_count m.bands) (sym e) (subst (λ t. c < cell_count t) (sym b) l)
+
+pub tile_cell_below : (m : Meaning) (T n tile : ℕ) (o : Option ℕ) → m.bands ≡ T → n < 4 * T → o ≡ cond (fills n) (Some (tile_cell T n)) None → o ≡ Some tile → tile < cell_count m.bands
+tile_cell_below m T n tile o b below e f =
+    let s = some_tile _ _ _ _ e f in
+    cell_below m T (tile_cell T n) tile b s.1 (tile_below T n below (fills_is n s.0))
+
+-- before the total comes on top, the tile that comes in use has it, or none comes
+abbrev pub First : ℕ → ℤ → Meaning → Meaning → Type 0
+First n total m m₁ = ((fills n ≡ true) × Put m (tile_cell m.bands n) total m₁) ⊎ ((fills n ≡ false) × (m₁ ≡ m))
+
+module _ (m m₁ : Meaning) (T n : ℕ) (o : Option ℕ) (b : m.bands ≡ T) (e : o ≡ cond (fills n) (Some (tile_cell T n)) None) where
+  pub first_free : (tile : ℕ) (total z : ℤ) → n < 4 * T → o ≡ Some tile → z ≡ total → pos (newly T n total m.cells) ≤ℤ m.room → Bars m tile z → ⊥
+  first_free tile total z below f h r =
+      let s = some_tile _ _ _ _ e f in
+      bars_at m (tile_cell m.bands n) tile total z (s.1 ∙ ap (λ t. tile_cell t n) (sym b)) h
+      (free_first m m m n total (subst (λ t. n < 4 * t) (sym b) below) s.0 (subst (λ t. pos (newly t n total m.cells) ≤ℤ m.room) (sym b) r))
+
+  pub first_tile : (tile : ℕ) (total z : ℤ) → o ≡ Some tile → z ≡ total → Put m tile z m₁ → First n total m m₁
+  first_tile tile total z f h p =
+      let s = some_tile _ _ _ _ e f in
+      inl (s.0, put_at m m₁ (tile_cell m.bands n) tile total z (s.1 ∙ ap (λ t. tile_cell t n) (sym b)) h p)
+
+  pub first_none : (total : ℤ) → o ≡ None → m₁ ≡ m → First n total m m₁
+  first_none total f h = inr (none_tile _ _ _ e f, h)
+
+module _ (m m₁ m' : Meaning) (T n at : ℕ) (total z : ℤ) (b : m.bands ≡ T) (below : n < 4 * T) (e : at ≡ top_cell T n) (h : z ≡ total) where
+  at_top : at ≡ top_cell m.bands n
+  at_top = e ∙ ap (λ t. top_cell t n) (sym b)
+
+  under : n < 4 * m.bands
+  under = subst (λ t. n < 4 * t) (sym b) below
+
+  pub same_bands : First n total m m₁ → m₁.bands ≡ T
+  same_bands (inl p) = p.1.bands ∙ b
+  same_bands (inr p) = ap (λ x. x.bands) p.1 ∙ b
+
+  pub top_free : First n total m m₁ → pos (newly T n total m.cells) ≤ℤ m.room → Bars m₁ at z → ⊥
+  top_free f r =
+      let r' : pos (newly m.bands n total m.cells) ≤ℤ m.room = subst (λ t. pos (newly t n total m.cells) ≤ℤ m.room) (sym b) r in
+      bars_at m₁ (top_cell m.bands n) at total z at_top h
+      (elim f [ inl p ↦ free_second m m₁ m₁ n total under p.0 p.1 r' | inr p ↦ subst (λ x. Bars x (top_cell m.bands n) total → ⊥) (sym p.1) (free_alone m m n total under p.0 r') ])
+
+  pub topped : First n total m m₁ → Put m₁ at z m' → Topped n total m m'
+  topped f q =
+      let q' = put_at m₁ m' (top_cell m.bands n) at total z at_top h q in
+      elim f [ inl p ↦ topped_both m m₁ m' n total under p.0 p.1 q' | inr p ↦ topped_alone m m' n total under p.0 (subst (λ x. Put x (top_cell m.bands n) total m') p.1 q') ]

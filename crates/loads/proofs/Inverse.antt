@@ -4,7 +4,7 @@ use Rattle.std.proofs.lemmas.Bool.Decides.{eqb_tells, leb_tells}
 use Rattle.std.proofs.lemmas.Int.{ints}
 use Rattle.std.proofs.lemmas.List.{ext_get_or, append-nil, length-set, length-take-le, length-drop, length-append, get_or-set_same, get_or-set_other, get_or-take, get_or-drop, get_or_append_left, get_or-append_right, drop_all, take_rest, take-append-drop}
 use lib.Seq.{take-append_seam, drop-append_seam}
-use Rattle.loads.specs.Transform.{joined, parted, haar, unhaar, Near, Within, Whole}
+use Rattle.loads.specs.Transform.{joined, parted, haar, unhaar, Near, Within}
 
 -- ---- lists
 
@@ -175,34 +175,31 @@ back_haar (suc m) zs l =
     ∙ ap (λ (x : List ℤ). take (2 ^ m) zs ++ x) (back_haar m (drop (2 ^ m) zs) dl)
     ∙ take-append-drop (2 ^ m) zs
 
-pub whole_haar : (m b : ℕ) (zs : List ℤ) → length zs ≡ 2 ^ m → Within b zs → b * 2 ^ m ≤ 2 ^ 61 → Whole m (haar m zs)
-whole_haar zero b zs l w u = tt
-whole_haar (suc m) b zs l w u =
+-- back within 2^61, whatever the numbers
+near_half : (b : ℕ) (z : ℤ) → Near (b * 2) z → Near b (quot_z z (pos 2))
+near_half b (pos n) h = (omega (arith, ints), omega (arith, ints))
+near_half b (negsuc n) h = (omega (arith, ints), omega (arith, ints))
+
+pub length_parted : (h : ℕ) (zs : List ℤ) → length (parted h zs) ≡ length zs
+length_parted h zs = length-set (set zs 0 _) h _ ∙ length-set zs 0 _
+
+pub within_parted : (b h : ℕ) (zs : List ℤ) → h < length zs → Within b zs → Within b (parted h zs)
+within_parted b h zs l w =
+    let n0 = w 0 (omega arith) in
+    let nh = w h l in
+    within_set b h _ (set zs 0 _) (near_half b _ (near_difference b _ _ n0 nh)) (within_set b 0 _ zs (near_half b _ (near_sum b _ _ n0 nh)) w)
+
+pub within_unhaar : (m b : ℕ) (zs : List ℤ) → length zs ≡ 2 ^ m → Within b zs → (length (unhaar m zs) ≡ 2 ^ m) × Within b (unhaar m zs)
+within_unhaar zero b zs l w = (l, w)
+within_unhaar (suc m) b zs l w =
     let p : 2 ^ suc m ≡ 2 ^ m * 2 = ap (λ (k : ℕ). 2 ^ k) (sym (add-one m)) ∙ pow-add 2 m 1 in
-    let tl = length-take-le (2 ^ m) zs (omega arith) in
-    let dl : length (drop (2 ^ m) zs) ≡ 2 ^ m = length-drop (2 ^ m) zs ∙ omega arith in
-    let A = haar m (take (2 ^ m) zs) in
-    let B = haar m (drop (2 ^ m) zs) in
-    let la = length_haar m (take (2 ^ m) zs) tl in
-    let lb = length_haar m (drop (2 ^ m) zs) dl in
     let pp = pow_pos m in
-    let lab = length-append A B in
-    let q : b * 2 ^ m * 2 ≡ b * 2 ^ suc m = mul_assoc b (2 ^ m) 2 ∙ ap (λ (x : ℕ). b * x) (sym p) in
-    let sm : b * 2 ^ m ≤ 2 ^ 61 = omega arith in
-    let wt = within_take b (2 ^ m) zs (omega arith) w in
-    let wd = within_drop b (2 ^ m) zs w in
-    let w2 = within_append (b * 2 ^ m) A B (within_haar m b (take (2 ^ m) zs) tl wt) (within_haar m b (drop (2 ^ m) zs) dl wd) in
-    let n0 = w2 0 (omega arith) in
-    let nh = w2 (2 ^ m) (omega arith) in
-    let e0 = joined_first (2 ^ m) (A ++ B) pp (omega arith) in
-    let eh = joined_other (2 ^ m) (A ++ B) pp (omega arith) in
-    let back = parted_joined (2 ^ m) (A ++ B) pp (omega arith) in
-    let W : List ℤ → Type 0 = λ x. Whole m x in (
-      (omega (arith, ints), omega (arith, ints)),
-      (omega (arith, ints), omega (arith, ints)),
-      subst W (sym (ap (λ (x : List ℤ). take (2 ^ m) x) back ∙ front (2 ^ m) A B la)) (whole_haar m b (take (2 ^ m) zs) tl wt sm),
-      subst W (sym (ap (λ (x : List ℤ). drop (2 ^ m) x) back ∙ rear (2 ^ m) A B la)) (whole_haar m b (drop (2 ^ m) zs) dl wd sm),
-    )
+    let ps = parted (2 ^ m) zs in
+    let lp = length_parted (2 ^ m) zs in
+    let wp = within_parted b (2 ^ m) zs (omega arith) w in
+    let x = within_unhaar m b (take (2 ^ m) ps) (length-take-le (2 ^ m) ps (omega arith)) (within_take b (2 ^ m) ps (omega arith) wp) in
+    let y = within_unhaar m b (drop (2 ^ m) ps) (length-drop (2 ^ m) ps ∙ omega arith) (within_drop b (2 ^ m) ps wp) in
+    (length-append (unhaar m (take (2 ^ m) ps)) (unhaar m (drop (2 ^ m) ps)) ∙ omega (arith, x.0, y.0), within_append b _ _ x.1 y.1)
 
 -- ---- the steps of the two recursions
 
@@ -216,14 +213,3 @@ restore_step n h zs ps r s e ep er es =
     ap (λ (x : List ℤ). x ++ s) er ∙ ap (λ (x : List ℤ). unhaar n (take h ps) ++ x) es
     ∙ ap (λ (x : List ℤ). unhaar n (take h x) ++ unhaar n (drop h x)) ep
     ∙ ap (λ (x : ℕ). unhaar n (take x (parted x zs)) ++ unhaar n (drop x (parted x zs))) e
-
-pub record Parts (n h : ℕ) (zs : List ℤ) : Type 0 where
-  pub sum : Near (2 ^ 62) (get_or zs 0 (pos 0) +ℤ get_or zs h (pos 0))
-  pub difference : Near (2 ^ 62) (get_or zs 0 (pos 0) -ℤ get_or zs h (pos 0))
-  pub left : Whole n (take h (parted h zs))
-  pub right : Whole n (drop h (parted h zs))
-
-pub whole_parts : (n h : ℕ) (zs : List ℤ) → h ≡ 2 ^ n → Whole (suc n) zs → Parts n h zs
-whole_parts n h zs e w =
-    let P : ℕ → Type 0 = λ x. Parts n x zs in
-    subst P (sym e) (record { sum = w.0; difference = w.1; left = w.2; right = w.3 })

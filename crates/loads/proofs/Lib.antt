@@ -5,7 +5,6 @@ pub mod Shares
 pub mod Fresh
 pub mod Seen
 pub mod Partly
-pub mod Reading
 pub mod Adding
 pub mod Guarded
 pub mod Growing

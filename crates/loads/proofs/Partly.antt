@@ -1,5 +1,5 @@
 -- A load that has written its touched cells below `from`.
-use Rattle.std.proofs.Common.{◌≡◌, ℕ, ◌+◌, ◌*◌, ◌<◌, ◌≤◌, ℤ, pos, ◌+ℤ◌, ◌≤ℤ◌, Ok, sym, refl, ap, ◌∙◌, subst, ap₂, ⊎_elim, arith, w64, SFits, to_z, of_z}
+use Rattle.std.proofs.Common.{◌≡◌, ℕ, ◌+◌, ◌*◌, ◌<◌, ◌≤◌, ℤ, pos, ◌+ℤ◌, ◌≤ℤ◌, sym, refl, ap, ◌∙◌, subst, ap₂, ⊎_elim, arith, w64, SFits, to_z, of_z}
 use Rattle.std.proofs.lemmas.Int.{ints, to_z-of_z}
 use Rattle.std.proofs.lemmas.Bool.{cases_eq, cases_lt}
 use Rattle.haar.specs.declared.coefficient.Coefficient.{Coefficient}
@@ -8,10 +8,9 @@ use Rattle.haar.specs.Haar.{value}
 use Rattle.haar.specs.Load.{Loaded}
 use Rattle.loads.specs.Reach.{Meets, Found, Past}
 use Rattle.haar.proofs.Numbers.{one_coefficient, inside_below}
-use Rattle.store.specs.Meaning.{Meaning, weight, filled, Bars, Put, Reads}
+use Rattle.store.specs.Meaning.{Meaning, weight, filled, Bars, Put}
 use Rattle.store.proofs.Counting.{put_keeps}
 use Rattle.loads.specs.Loads.{fresh, Small, Clear, Stored}
-use Rattle.loads.proofs.Reading.{read_is}
 use Rattle.loads.proofs.Fresh.{fresh_step, fresh_rises}
 
 pub record Partly (T n m p : ℕ) (g : ℕ → ℤ) (before now : Meaning) (from : ℕ) : Type 0 where
@@ -47,9 +46,9 @@ module _ (T n m p : ℕ) (g : ℕ → ℤ) (some : 1 ≤ T) (held : n ≤ 4 * T)
     cell_kept = part.kept cell cell_in (λ s' me e l. omega (arith, f.after))
 
     -- its new number, as the code adds it up
-    module _ (number' share' : ℤ) (f₁ : SFits w64 number') (f₂ : SFits w64 share') (read : Reads now cell (Ok number')) (is : share' ≡ value n g s) (small : Clear T n m p g before.cells (cell_count T)) where
+    module _ (number' share' : ℤ) (f₁ : SFits w64 number') (f₂ : SFits w64 share') (read : number' ≡ now.cells cell) (is : share' ≡ value n g s) (small : Clear T n m p g before.cells (cell_count T)) where
       sum_is : to_z w64 (of_z w64 number') +ℤ to_z w64 (of_z w64 share') ≡ before.cells cell +ℤ value n g s
-      sum_is = ap₂ ◌+ℤ◌ (to_z-of_z w64 _ f₁ ∙ read_is now T cell number' part.bands cell_in read ∙ cell_kept) (to_z-of_z w64 _ f₂ ∙ is)
+      sum_is = ap₂ ◌+ℤ◌ (to_z-of_z w64 _ f₁ ∙ read ∙ cell_kept) (to_z-of_z w64 _ f₂ ∙ is)
 
       pub sum_fits : SFits w64 (to_z w64 (of_z w64 number') +ℤ to_z w64 (of_z w64 share'))
       sum_fits =

@@ -1,11 +1,10 @@
 -- What the transformed buffer holds, and what of it is a coefficient's share.
-use Rattle.std.proofs.Common.{◌≡◌, ℕ, zero, suc, ◌+◌, ◌-◌, ◌*◌, ◌/◌, ◌%◌, ◌^◌, ◌<◌, ◌≤◌, Bool, cond, eqb, List, ◌++◌, length, get_or, take, drop, set, ℤ, pos, ◌+ℤ◌, ◌-ℤ◌, sym, ap, ◌∙◌, subst, ap₂, inl, inr, ⊎_elim, add-zero, mul-le-mul_right, add-mul, mul-suc, sub-one, arith, pow_pos, pow_mono, pow-add, shr_lt}
+use Rattle.std.proofs.Common.{◌≡◌, ℕ, zero, suc, ◌+◌, ◌-◌, ◌*◌, ◌/◌, ◌%◌, ◌^◌, ◌<◌, ◌≤◌, List, ◌++◌, length, get_or, take, drop, set, ℤ, pos, ◌+ℤ◌, ◌-ℤ◌, sym, ap, ◌∙◌, subst, ap₂, ⊎_elim, add-zero, mul-le-mul_right, add-mul, mul-suc, sub-one, arith, pow_pos, pow_mono, pow-add, shr_lt, w64, SFits, to_z, of_z, rules}
 use native.Mathlib.Nat.{two-pow-succ}
 use lib.Signed.{quot_z}
 use Rattle.std.proofs.lemmas.List.{length-take-le, length-drop, length-append, get_or-take, get_or-drop, get_or_append_left, get_or-append_right, get_or-set_other, get_or_past}
 use Rattle.std.proofs.lemmas.Nat.{one_shl}
-use Rattle.std.proofs.lemmas.Bool.Decides.{eqb_tells}
-use Rattle.std.proofs.lemmas.Int.{ints}
+use Rattle.std.proofs.lemmas.Int.{ints, to_z-of_z}
 use Rattle.std.proofs.lemmas.Bool.{cases_lt}
 use Rattle.haar.specs.Tree.{plain_sum, S, D}
 use Rattle.loads.specs.Transform.{haar, unhaar, joined, Near}
@@ -178,26 +177,53 @@ pub shifted_place : (j k : ℕ) → j < 64 → k * (1 * 2 ^ j % 2 ^ 64) + 1 * 2 
 shifted_place j k h = ap₂ (λ x y. k * x + y) (one_shl j 64 h) (one_shl (j - 1) 64 (omega arith))
 
 -- one step down to the half that index q picks
-pub step_down : (v : ℕ → ℤ) (r q : ℕ) (right : Bool) → right ≡ eqb (q % 2) 1 → quot_z (cond right (S v (suc r) (q / 2) -ℤ D v (suc r) (q / 2)) (S v (suc r) (q / 2) +ℤ D v (suc r) (q / 2))) (pos 2) ≡ S v r q
-step_down v r q right e =
+step_left : (v : ℕ → ℤ) (r q : ℕ) → q % 2 ≡ 0 → quot_z (S v (suc r) (q / 2) +ℤ D v (suc r) (q / 2)) (pos 2) ≡ S v r q
+step_left v r q e =
     let d = down v r q in
-    elim (eqb_tells (q % 2) 1) [
-      | inl t ↦
-          let f : S v (suc r) (q / 2) -ℤ D v (suc r) (q / 2) ≡ S v r q +ℤ S v r q = omega (arith, ints, d.1 t.1) in
-          rw (e, t.0, f) (twice_half (S v r q))
-      | inr t ↦
-          let f : S v (suc r) (q / 2) +ℤ D v (suc r) (q / 2) ≡ S v r q +ℤ S v r q = omega (arith, ints, d.0 (omega (arith, t.1))) in
-          rw (e, t.0, f) (twice_half (S v r q))
-    ]
+    let f : S v (suc r) (q / 2) +ℤ D v (suc r) (q / 2) ≡ S v r q +ℤ S v r q = omega (arith, ints, d.0 e) in
+    rw f (twice_half (S v r q))
 
-pub down_at : (v : ℕ → ℤ) (at level index : ℕ) (sum d : ℤ) (right : Bool) → level < at → sum ≡ S v at (index / 2 ^ (at - level)) → d ≡ D v at (index / 2 ^ (at - level)) → right ≡ eqb (index / 2 ^ (at - 1 - level) % 2) 1 → quot_z (cond right (sum -ℤ d) (sum +ℤ d)) (pos 2) ≡ S v (at - 1) (index / 2 ^ (at - 1 - level))
-down_at v zero level index sum d right h e f g = absurd (omega arith)
-down_at v (suc r) level index sum d right h e f g =
-    let x : suc r - level ≡ suc (suc r - 1 - level) = omega arith in
-    let y : index / 2 ^ (suc r - level) ≡ index / 2 ^ (suc r - 1 - level) / 2 = ap (λ z. index / 2 ^ z) x ∙ shift_suc index (suc r - 1 - level) in
-    let e' = e ∙ ap (S v (suc r)) y in
-    let f' = f ∙ ap (D v (suc r)) y in
-    ap₂ (λ a b. quot_z (cond right (a -ℤ b) (a +ℤ b)) (pos 2)) e' f' ∙ step_down v r _ right g ∙ ap (λ z. S v z (index / 2 ^ (suc r - 1 - level))) (sym (sub-one (suc r)))
+step_right : (v : ℕ → ℤ) (r q : ℕ) → (q % 2 ≡ 0 → ⊥) → quot_z (S v (suc r) (q / 2) -ℤ D v (suc r) (q / 2)) (pos 2) ≡ S v r q
+step_right v r q e =
+    let d = down v r q in
+    let f : S v (suc r) (q / 2) -ℤ D v (suc r) (q / 2) ≡ S v r q +ℤ S v r q = omega (arith, ints, d.1 (omega arith)) in
+    rw f (twice_half (S v r q))
+
+-- the same from level `at` of a descent to the interval (level, index)
+module _ (v : ℕ → ℤ) (level index : ℕ) where
+  over : ℕ → ℕ
+  over at = index / 2 ^ (at - level)
+
+  turned : (r : ℕ) → level < suc r → over (suc r) ≡ over (suc r - 1) / 2
+  unfolding over
+  turned r h = let x : suc r - level ≡ suc (suc r - 1 - level) = omega arith in ap (λ z. index / 2 ^ z) x ∙ shift_suc index (suc r - 1 - level)
+
+  pub down_left : (at : ℕ) (s d : ℤ) → level < at → s ≡ S v at (index / 2 ^ (at - level)) → d ≡ D v (at - 1 + 1) (index / 2 ^ (at - 1 + 1 - level)) → index / 2 ^ (at - 1 - level) % 2 ≡ 0 → quot_z (s +ℤ d) (pos 2) ≡ S v (at - 1) (index / 2 ^ (at - 1 - level))
+  unfolding over
+  down_left zero s d h e f g = absurd (omega arith)
+  down_left (suc r) s d h e f g =
+      let z : suc r - 1 + 1 ≡ suc r = omega arith in
+      let y = turned r h in
+      ap₂ (λ a b. quot_z (a +ℤ b) (pos 2)) (e ∙ ap (S v (suc r)) y) (f ∙ ap (λ x. D v x (index / 2 ^ (x - level))) z ∙ ap (D v (suc r)) y) ∙ step_left v r _ g ∙ ap (λ x. S v x (index / 2 ^ (suc r - 1 - level))) (sym (sub-one (suc r)))
+
+  pub down_right : (at : ℕ) (s d : ℤ) → level < at → s ≡ S v at (index / 2 ^ (at - level)) → d ≡ D v (at - 1 + 1) (index / 2 ^ (at - 1 + 1 - level)) → (index / 2 ^ (at - 1 - level) % 2 ≡ 0 → ⊥) → quot_z (s -ℤ d) (pos 2) ≡ S v (at - 1) (index / 2 ^ (at - 1 - level))
+  unfolding over
+  down_right zero s d h e f g = absurd (omega arith)
+  down_right (suc r) s d h e f g =
+      let z : suc r - 1 + 1 ≡ suc r = omega arith in
+      let y = turned r h in
+      ap₂ (λ a b. quot_z (a -ℤ b) (pos 2)) (e ∙ ap (S v (suc r)) y) (f ∙ ap (λ x. D v x (index / 2 ^ (x - level))) z ∙ ap (D v (suc r)) y) ∙ step_right v r _ g ∙ ap (λ x. S v x (index / 2 ^ (suc r - 1 - level))) (sym (sub-one (suc r)))
+
+-- a sum and a difference of a chunk's tree, added and halved by the machine
+near_fits : (z : ℤ) → Near (2 ^ 62) z → SFits w64 z
+near_fits z h = record { sfits = grind (arith, ints) }
+
+pub pair_fits : (s d : ℤ) → Near (2 ^ 43) s → Near (2 ^ 61) d → SFits w64 (s +ℤ d) × SFits w64 (s -ℤ d)
+pair_fits s d a b =
+    (near_fits _ (omega (arith, ints), omega (arith, ints)), near_fits _ (omega (arith, ints), omega (arith, ints)))
+
+pub halved : (z : ℤ) → SFits w64 z → to_z w64 (of_z w64 (quot_z (to_z w64 (of_z w64 z)) (pos 2))) ≡ quot_z z (pos 2)
+halved z f = let q : SFits w64 (quot_z z (pos 2)) = search rules in simp to_z-of_z
 
 -- an index below a level, seen from a level above
 pub index_up : (chunk at level index : ℕ) → level ≤ at → at ≤ chunk → index < 2 ^ (chunk - level) → index / 2 ^ (at - level) < 2 ^ (chunk - at)

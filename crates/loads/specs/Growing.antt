@@ -4,7 +4,7 @@
 --   newly           how many of the cells to write go from zero to nonzero
 --   Stays           why a growth is refused
 --   Growth          what the call answers, and the view after it
-use Rattle.std.specs.Prelude.{◌≡◌, ℕ, suc, ◌+◌, ◌-◌, ◌*◌, ◌/◌, ◌%◌, ◌<◌, ◌≤◌, Bool, cond, ◌&&◌, ℤ, pos, ◌+ℤ◌, ◌≤ℤ◌, ◌<ℤ◌, Some, None, Ok, Err, Option, Result, ◌==◌, nat_lt}
+use Rattle.std.specs.Prelude.{◌≡◌, ℕ, suc, ◌+◌, ◌-◌, ◌*◌, ◌/◌, ◌%◌, ◌<◌, ◌≤◌, Bool, cond, ◌&&◌, ℤ, pos, ◌+ℤ◌, ◌≤ℤ◌, ◌<ℤ◌, Ok, Err, Result, ◌==◌, nat_lt}
 use Rattle.haar.specs.declared.coefficient.Coefficient.TheVariants.{TileSum, Difference}
 use Rattle.haar.specs.Tiles.{cell_number, cell_count}
 use Rattle.haar.specs.Count.{bands_in_use}
@@ -83,9 +83,3 @@ Grows v (Err f) v' = Stays v f × (v' ≡ v)
 pub record Growth (v : View) (r : Result ℕ Refusal) (v' : View) : Type 0 where
   pub grows : Grows v (fault_alone r) v'
   pub asked : Repeats r (asked.Size v.size)
-
--- the cells of a growth from size n in T bands
-pub record Places (T n at over : ℕ) (first : Option ℕ) : Type 0 where
-  pub total : at ≡ total_cell T n
-  pub top : over ≡ top_cell T n
-  pub tile : first ≡ cond (fills n) (Some (tile_cell T n)) None

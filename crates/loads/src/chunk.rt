@@ -6,7 +6,7 @@ ghost use Rattle.loads.specs.Adds.{Adds};
 
 use crate::cells::{check_cells, write_cells};
 use crate::reach::Reach;
-use crate::transform::{Transformed, transform};
+use crate::transform::Transformed;
 use haar::written::cells_written;
 use store::interface::Store;
 use warehouse::fault::Fault;
@@ -22,18 +22,12 @@ pub(crate) fn add_chunk<S: Store>(
     ensures restored { numbers.new ≡ numbers.old }
     ensures adds { Adds reach.bands reach.size reach.level reach.index (minutes reach.level reach.index numbers.old) (S.means store.old) result (S.means store.new) }
 {
-    transform(numbers, reach.level);
-    let guard = Transformed {
-        numbers,
-        level: reach.level,
-    };
-    let started = match check_cells(store, reach, guard.view()) {
-        Ok(started) => started,
-        Err(cell) => return Err(Fault::Large(cell)),
-    };
+    let guard = Transformed::of(numbers, reach.level);
+    let chunk = guard.tree(reach);
+    let started = check_cells(store, &chunk).map_err(Fault::Large)?;
     if !store.fits(started) {
         return Err(Fault::Full);
     }
-    let _ = write_cells(store, reach, guard.view());
-    Ok(cells_written(reach.level as u32, reach.size as u32))
+    write_cells(store, &chunk);
+    Ok(cells_written(u32::from(reach.level), u32::from(reach.size)))
 }

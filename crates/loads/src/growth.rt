@@ -1,103 +1,69 @@
 // Growing a warehouse by one level.
-ghost use Rattle.std.specs.Prelude.{◌≡◌, ℕ, suc, ◌-◌, ◌*◌, ◌^◌, ◌<◌, ◌≤◌, true, false, ℤ, pos, ◌≤ℤ◌};
-ghost use Rattle.haar.specs.Tiles.{cell_count};
-ghost use Rattle.store.specs.Meaning.{Bars, Put};
+ghost use Rattle.std.specs.Prelude.{◌≡◌, ℕ, ◌*◌, ◌<◌, ◌≤◌, cond, Some, None, pos, ◌≤ℤ◌};
 ghost use Rattle.warehouse.specs.View.{known};
-ghost use Rattle.loads.specs.Loads.{Small};
-ghost use Rattle.loads.specs.Growing.{Places, newly, Topped, Grows, Growth};
+ghost use Rattle.loads.specs.Growing.{total_cell, top_cell, tile_cell, fills, newly, Topped, Grows, Growth};
 
-use crate::cells::starts;
+use crate::cells::{is_small, number_in, put, starts};
 use haar::cells::{difference_cell, sum_cell};
 use store::interface::Store;
 use warehouse::fault::{Asked, Fault, Refusal};
-use warehouse::numbers::asking;
 use warehouse::record::Warehouse;
-
-// The limit of a cell.
-const LIMIT: i64 = 72_057_594_037_927_936;
 
 // The cells of a growth: where the total stands, where it comes on top, and the tile that comes in use.
 #[derive(Clone, Copy)]
 struct GrowthCells {
+    bands: u8,
+    size: u8,
     total: u32,
     top: u32,
     tile: Option<u32>,
+    ghost few: { bands ≤ 5 },
+    ghost below: { size < 4 * bands },
+    ghost stands: { total ≡ total_cell bands size },
+    ghost over: { top ≡ top_cell bands size },
+    ghost comes: { tile ≡ cond (fills size) (Some (tile_cell bands size)) None },
 }
 
-fn growth_cells(bands: u8, size: u8) -> GrowthCells
-    requires { (bands ≤ 5) × (size < 4 * bands) }
-    ensures { Places bands size result.total result.top result.tile }
-{
-    let total = sum_cell(bands, size, 0).unwrap();
-    let top = difference_cell(bands, size + 1, 0).unwrap();
-    let first = sum_cell(bands, size + 1, 0).unwrap();
-    GrowthCells {
-        total,
-        top,
-        tile: if size > 0 && size % 4 == 0 {
-            Some(first)
-        } else {
-            None
-        },
-    }
-}
-
-// The number in a cell that the store has.
-fn number_in<S: Store>(store: &S, cell: u32) -> i64
-    requires { cell < cell_count (S.means store.now).bands }
-    ensures { result ≡ (S.means store.now).cells cell }
-{
-    match store.read(cell) {
-        Ok(number) => number,
-        Err(_) => 0,
-    }
-}
-
-// A number into a cell that the store has, where there is room for it.
-fn put<S: Store>(store: &mut S, cell: u32, number: i64)
-    requires inside { cell < cell_count (S.means store.old).bands }
-    requires free { Bars (S.means store.old) cell number → ⊥ }
-    ensures { Put (S.means store.old) cell number (S.means store.new) }
-{
-    let _ = store.write(cell, number);
-}
-
-// The total into its cells, the lower one first.
-fn write_total<S: Store>(store: &mut S, size: u8, cells: GrowthCells, total: i64)
-    requires lawful { (S.means store.old).bands ≤ 5 }
-    requires below { size < 4 * (S.means store.old).bands }
-    requires places { Places (S.means store.old).bands size cells.total cells.top cells.tile }
-    requires room { pos (newly (S.means store.old).bands size total (S.means store.old).cells) ≤ℤ (S.means store.old).room }
-    ensures { Topped size total (S.means store.old) (S.means store.new) }
-{
-    match cells.tile {
-        Some(tile) => {
-            put(store, tile, total);
-            put(store, cells.top, total);
+impl GrowthCells {
+    fn of(bands: u8, size: u8) -> GrowthCells
+        requires { (bands ≤ 5) × (size < 4 * bands) }
+        ensures { (result.bands ≡ bands) × (result.size ≡ size) }
+    {
+        let total = sum_cell(bands, size, 0).unwrap();
+        let top = difference_cell(bands, size + 1, 0).unwrap();
+        let first = sum_cell(bands, size + 1, 0).unwrap();
+        GrowthCells {
+            bands,
+            size,
+            total,
+            top,
+            tile: (size > 0 && size % 4 == 0).then_some(first),
         }
-        None => put(store, cells.top, total),
     }
-}
 
-// How many of the cells to write go from zero to nonzero.
-fn newly_filled<S: Store>(store: &S, size: u8, cells: GrowthCells, total: i64) -> u32
-    requires below { size < 4 * (S.means store.now).bands }
-    requires places { Places (S.means store.now).bands size cells.total cells.top cells.tile }
-    ensures { result ≡ newly (S.means store.now).bands size total (S.means store.now).cells }
-{
-    let top = starts(number_in(store, cells.top), total);
-    match cells.tile {
-        Some(tile) => top + starts(number_in(store, tile), total),
-        None => top,
+    // How many of the cells to write go from zero to nonzero.
+    fn newly_filled<S: Store>(self, store: &S, total: i64) -> u32
+        requires { (S.means store.now).bands ≡ self.bands }
+        ensures { result ≡ newly self.bands self.size total (S.means store.now).cells }
+    {
+        let top = starts(number_in(store, self.top), total);
+        match self.tile {
+            Some(tile) => top + starts(number_in(store, tile), total),
+            None => top,
+        }
     }
-}
 
-// Whether a cell may hold the number.
-fn is_small(number: i64) -> bool
-    ensures yes { result ≡ true → Small number }
-    ensures none { result ≡ false → Small number → ⊥ }
-{
-    -LIMIT <= number && number <= LIMIT
+    // The total into its cells, the lower one first.
+    fn write<S: Store>(self, store: &mut S, total: i64)
+        requires bands { (S.means store.old).bands ≡ self.bands }
+        requires room { pos (newly self.bands self.size total (S.means store.old).cells) ≤ℤ (S.means store.old).room }
+        ensures { Topped self.size total (S.means store.old) (S.means store.new) }
+    {
+        if let Some(tile) = self.tile {
+            put(store, tile, total);
+        }
+        put(store, self.top, total);
+    }
 }
 
 // The checks of a growth in their order, and its writing.
@@ -109,18 +75,16 @@ fn raise<S: Store>(warehouse: &mut Warehouse<S>) -> Result<u8, Fault>
     if size >= 4 * bands {
         return Err(Fault::Top);
     }
-    let cells = growth_cells(bands, size);
+    let cells = GrowthCells::of(bands, size);
     let total = number_in(&warehouse.store, cells.total);
     if !is_small(total) {
         return Err(Fault::Large(cells.tile.unwrap_or(cells.top)));
     }
-    if !warehouse
-        .store
-        .fits(newly_filled(&warehouse.store, size, cells, total))
-    {
+    let more = cells.newly_filled(&warehouse.store, total);
+    if !warehouse.store.fits(more) {
         return Err(Fault::Full);
     }
-    write_total(&mut warehouse.store, size, cells, total);
+    cells.write(&mut warehouse.store, total);
     warehouse.asked = size + 1;
     Ok(size + 1)
 }
@@ -130,6 +94,6 @@ pub fn grow<S: Store>(warehouse: &mut Warehouse<S>) -> Result<u8, Refusal>
     ensures { Growth (known S.means warehouse.old) result (known S.means warehouse.new) }
 {
     let size = warehouse.size();
-    let grown = asking(raise(warehouse), Asked::Size(size))?;
+    let grown = raise(warehouse).map_err(|fault| (fault, Asked::Size(size)))?;
     Ok(grown)
 }

@@ -1,8 +1,6 @@
 // The laws of additions.
 ghost use Rattle.loads.specs.Keeps.{Keeps};
 
-pub fn keeps_stands() -> u8
+pub fn keeps_stands()
     ensures { Keeps }
-{
-    0
-}
+{}

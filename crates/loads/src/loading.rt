@@ -4,58 +4,24 @@ ghost use Rattle.warehouse.specs.View.{known};
 ghost use Rattle.loads.specs.Opening.{Returned, Begins, Takes, Finished, Finishes};
 
 use crate::open::{OpenLoad, RefusedLoad};
-use crate::values::{add_values, lies};
+use crate::values::add_values;
 use store::interface::Store;
 use warehouse::fault::{Asked, Fault, Refusal};
 use warehouse::record::Warehouse;
-
-// How many values a chunk has.
-fn chunk_len(level: u8) -> usize
-    requires { level ≤ 12 }
-    ensures is { result ≡ 2 ^ level }
-    ensures most { result ≤ 4096 }
-{
-    1 << level
-}
-
-// The checks of a finish and its writing, by the load's numbers.
-fn finished<S: Store>(
-    warehouse: &mut Warehouse<S>,
-    level: u8,
-    index: u32,
-    taken: u32,
-    buffer: &mut [i64],
-) -> Result<u32, Fault>
-    requires { level ≤ 12 }
-    ensures restored { buffer.new ≡ buffer.old }
-    ensures finished { Finished (known S.means warehouse.old) level index taken buffer.old result (known S.means warehouse.new) }
-{
-    let many = chunk_len(level);
-    if (taken as usize) < many {
-        return Err(Fault::Short);
-    }
-    if buffer.len() < many {
-        return Err(Fault::Buffer);
-    }
-    add_values(warehouse, level, index, &mut buffer[0..many])
-}
 
 // A load of 2^level minutes, beside the warehouse.
 pub fn begin<S: Store>(warehouse: &Warehouse<S>, level: u8, index: u32) -> Result<OpenLoad, Refusal>
     ensures { Begins (known S.means warehouse.now).size level index result }
 {
-    let asked = Asked::Interval(level, index);
+    let refusal = |fault| Refusal {
+        fault,
+        asked: Asked::Interval(level, index),
+    };
     if level > 12 {
-        return Err(Refusal {
-            fault: Fault::Level,
-            asked,
-        });
+        return Err(refusal(Fault::Level));
     }
-    if !lies(warehouse.size(), level, index) {
-        return Err(Refusal {
-            fault: Fault::Domain,
-            asked,
-        });
+    if !warehouse.has(level, index) {
+        return Err(refusal(Fault::Domain));
     }
     Ok(OpenLoad {
         level,
@@ -65,28 +31,47 @@ pub fn begin<S: Store>(warehouse: &Warehouse<S>, level: u8, index: u32) -> Resul
 }
 
 impl OpenLoad {
+    // How many values the chunk has.
+    fn chunk_len(&self) -> usize
+        ensures is { result ≡ 2 ^ self.now.level }
+        ensures most { result ≤ 4096 }
+    {
+        1 << self.level
+    }
+
     // The value goes to the next place of the buffer.
-    pub fn value(self, buffer: &mut [i64], value: i64) -> Result<OpenLoad, RefusedLoad>
+    pub fn value(mut self, buffer: &mut [i64], value: i64) -> Result<OpenLoad, RefusedLoad>
         ensures { Takes self value buffer.old result buffer.new }
     {
         let place = self.taken as usize;
-        if place >= chunk_len(self.level) {
+        if place >= self.chunk_len() {
             return Err(self.refused(Fault::Over));
         }
         if place >= buffer.len() {
             return Err(self.refused(Fault::Buffer));
         }
         buffer[place] = value;
-        let OpenLoad {
-            level,
-            index,
-            taken,
-        } = self;
-        Ok(OpenLoad {
-            level,
-            index,
-            taken: taken + 1,
-        })
+        self.taken += 1;
+        Ok(self)
+    }
+
+    // The checks of a finish and its writing.
+    fn finished<S: Store>(
+        &self,
+        warehouse: &mut Warehouse<S>,
+        buffer: &mut [i64],
+    ) -> Result<u32, Fault>
+        ensures restored { buffer.new ≡ buffer.old }
+        ensures finished { Finished (known S.means warehouse.old) self.now.level self.now.index self.now.taken buffer.old result (known S.means warehouse.new) }
+    {
+        let many = self.chunk_len();
+        if (self.taken as usize) < many {
+            return Err(Fault::Short);
+        }
+        if buffer.len() < many {
+            return Err(Fault::Buffer);
+        }
+        add_values(warehouse, self.level, self.index, &mut buffer[..many])
     }
 
     // Adds the chunk; the buffer holds what it held, also where the load comes back.
@@ -98,7 +83,8 @@ impl OpenLoad {
         ensures restored { buffer.new ≡ buffer.old }
         ensures finishes { Finishes self (known S.means warehouse.old) buffer.old result (known S.means warehouse.new) }
     {
-        match finished(warehouse, self.level, self.index, self.taken, buffer) {
+        // by match: either arm uses up the load, and a closure of map_err would hold it in both
+        match self.finished(warehouse, buffer) {
             Ok(written) => {
                 let _ = self.give_up();
                 Ok(written)

@@ -1,91 +1,80 @@
-// A chunk's share of a coefficient, from the chunk's transformed buffer.
-ghost use Rattle.std.specs.Prelude.{◌≡◌, ℕ, ◌+◌, ◌-◌, ◌*◌, ◌/◌, ◌^◌, ◌<◌, ◌≤◌, pos, ◌+ℤ◌, ◌-ℤ◌, if◌then◌else◌, int_div};
+// A chunk's share of a coefficient, from its tree.
+ghost use Rattle.std.specs.Prelude.{◌≡◌, ℕ, ◌+◌, ◌-◌, ◌*◌, ◌/◌, ◌^◌, ◌<◌, ◌≤◌};
 ghost use Rattle.haar.specs.Tree.{S, D};
 ghost use Rattle.haar.specs.Haar.{value};
 ghost use Rattle.loads.specs.Reach.{Meets};
 ghost use Rattle.loads.specs.Transform.{Near, unhaar};
-ghost use Rattle.loads.specs.Share.{minutes, alone, Ready};
+ghost use Rattle.loads.specs.Share.{told, alone, Ready};
 
 use crate::reach::Reach;
 use haar::coefficient::Coefficient;
 
-// D(level, index) of the chunk alone
-fn difference_at(numbers: &[i64], chunk: u8, level: u8, index: u32) -> i64
-    requires { (Ready chunk numbers.now) × ((chunk ≤ 12) × ((1 ≤ level) × ((level ≤ chunk) × (index < 2 ^ (chunk - level))))) }
-    ensures { result ≡ D (alone (unhaar chunk numbers.now)) level index }
-{
-    numbers[(index as usize) * (1usize << level) + (1usize << (level - 1))]
+// The tree of a chunk's values, in a buffer.
+#[derive(Drop)]
+pub struct ChunkTree<'a> {
+    pub numbers: &'a [i64],
+    pub reach: Reach,
+    ghost ready: { Ready reach.level numbers.now },
 }
 
-// the chunk's sum
-fn whole_sum(numbers: &[i64], chunk: u8) -> i64
-    requires { (Ready chunk numbers.now) × (chunk ≤ 12) }
-    ensures is { result ≡ S (alone (unhaar chunk numbers.now)) chunk 0 }
-    ensures near { Near (2 ^ 43) result }
-{
-    numbers[0]
-}
-
-// one half of a sum whose halves differ by `difference`
-fn half_of(sum: i64, difference: i64, right: bool) -> i64
-    requires { (Near (2 ^ 61) sum) × (Near (2 ^ 61) difference) }
-    ensures { result ≡ int_div (if right then sum -ℤ difference else sum +ℤ difference) (pos 2) }
-{
-    if right {
-        (sum - difference) / 2
-    } else {
-        (sum + difference) / 2
+impl ChunkTree<'_> {
+    // D(level, index) of the chunk alone
+    fn difference_at(&self, level: u8, index: u32) -> i64
+        requires { (1 ≤ level) × ((level ≤ self.now.reach.level) × (index < 2 ^ (self.now.reach.level - level))) }
+        ensures { result ≡ D (alone (unhaar self.now.reach.level self.now.numbers.now)) level index }
+    {
+        self.numbers[(index as usize) * (1usize << level) + (1usize << (level - 1))]
     }
-}
 
-// S(level, index) of the chunk alone, going down from its sum by halves
-fn sum_at(numbers: &[i64], chunk: u8, level: u8, index: u32) -> i64
-    requires { (Ready chunk numbers.now) × ((chunk ≤ 12) × ((level ≤ chunk) × (index < 2 ^ (chunk - level)))) }
-    ensures { result ≡ S (alone (unhaar chunk numbers.now)) level index }
-{
-    let mut sum = whole_sum(numbers, chunk);
-    let mut at = chunk;
-    while at > level {
-        let difference = difference_at(numbers, chunk, at, index >> (at - level));
-        at -= 1;
-        sum = half_of(sum, difference, (index >> (at - level)) % 2 == 1);
+    // the chunk's sum
+    fn whole_sum(&self) -> i64
+        ensures is { result ≡ S (alone (unhaar self.now.reach.level self.now.numbers.now)) self.now.reach.level 0 }
+        ensures near { Near (2 ^ 43) result }
+    {
+        self.numbers[0]
     }
-    sum
-}
 
-pub(crate) fn share(reach: Reach, numbers: &[i64], coefficient: Coefficient) -> i64
-    requires { (Ready reach.level numbers.now) × (Meets reach.size reach.level reach.index coefficient) }
-    ensures { result ≡ value reach.size (minutes reach.level reach.index (unhaar reach.level numbers.now)) coefficient }
-{
-    match coefficient {
-        Coefficient::Difference(level, index) => {
-            if level <= reach.level {
-                difference_at(
-                    numbers,
-                    reach.level,
-                    level,
-                    index % (1u32 << (reach.level - level)),
-                )
+    // S(level, index) of the chunk alone, going down from its sum by halves
+    fn sum_at(&self, level: u8, index: u32) -> i64
+        requires { (level ≤ self.now.reach.level) × (index < 2 ^ (self.now.reach.level - level)) }
+        ensures { result ≡ S (alone (unhaar self.now.reach.level self.now.numbers.now)) level index }
+    {
+        let mut sum = self.whole_sum();
+        for half in (level..self.reach.level).rev() {
+            let difference = self.difference_at(half + 1, index >> (half + 1 - level));
+            sum = if (index >> (half - level)) % 2 == 0 {
+                (sum + difference) / 2
             } else {
-                let sum = whole_sum(numbers, reach.level);
-                if (reach.index >> (level - 1 - reach.level)) % 2 == 0 {
+                (sum - difference) / 2
+            };
+        }
+        sum
+    }
+
+    pub(crate) fn share(&self, coefficient: Coefficient) -> i64
+        requires { Meets self.now.reach.size self.now.reach.level self.now.reach.index coefficient }
+        ensures { result ≡ value self.now.reach.size (told self.now.reach.level self.now.reach.index self.now.numbers.now) coefficient }
+    {
+        let chunk = self.reach.level;
+        match coefficient {
+            Coefficient::Difference(level, index) if level <= chunk => {
+                self.difference_at(level, index % (1u32 << (chunk - level)))
+            }
+            Coefficient::Difference(level, _) => {
+                let sum = self.whole_sum();
+                if (self.reach.index >> (level - 1 - chunk)) % 2 == 0 {
                     sum
                 } else {
                     -sum
                 }
             }
-        }
-        Coefficient::TileSum(band, tile) => {
-            let top = 4 * band + 4;
-            if top < reach.level {
-                sum_at(
-                    numbers,
-                    reach.level,
-                    top,
-                    tile % (1u32 << (reach.level - top)),
-                )
-            } else {
-                whole_sum(numbers, reach.level)
+            Coefficient::TileSum(band, tile) => {
+                let top = 4 * band + 4;
+                if top < chunk {
+                    self.sum_at(top, tile % (1u32 << (chunk - top)))
+                } else {
+                    self.whole_sum()
+                }
             }
         }
     }

@@ -1,26 +1,16 @@
 // The slots of a tile, and which of them a chunk touches.
 ghost use Rattle.std.specs.Prelude.{◌≡◌, ℕ, ◌+◌, ◌-◌, ◌*◌, ◌/◌, ◌^◌, ◌<◌, ◌≤◌, true, false, ◌≢◌};
-ghost use Rattle.haar.specs.Tiles.{tiles_before};
 ghost use Rattle.haar.specs.Count.{bands_in_use};
 ghost use Rattle.loads.specs.Reach.{Sits, Meets};
 
 use crate::reach::Reach;
-use haar::cells::tiles_before;
 use haar::coefficient::Coefficient;
-
-// how many tiles stand before the band that has `above` bands above it
-pub(crate) fn tiles_above(above: u8) -> u32
-    requires { above ≤ 5 }
-    ensures { result ≡ tiles_before above }
-{
-    tiles_before(above)
-}
 
 pub(crate) fn bands_in_use(size: u8) -> u8
     requires { size ≤ 20 }
     ensures { result ≡ bands_in_use size }
 {
-    ((size + 3) / 4).max(1)
+    size.div_ceil(4).max(1)
 }
 
 pub(crate) fn in_slot(band: u8, tile: u32, slot: u32) -> Coefficient
@@ -54,8 +44,8 @@ pub(crate) fn meets(reach: Reach, coefficient: Coefficient) -> bool
         Coefficient::TileSum(band, tile) => {
             band < bands_in_use(reach.size) && overlaps(reach, (4 * band + 4).min(reach.size), tile)
         }
-        Coefficient::Difference(level, index) => 1 <= level
-            && level <= reach.size
-            && overlaps(reach, level, index),
+        Coefficient::Difference(level, index) => {
+            (1..=reach.size).contains(&level) && overlaps(reach, level, index)
+        }
     }
 }

@@ -1,6 +1,10 @@
 // The chunk's tree in place: the sum at 0, D(j,k) at k * 2^j + 2^(j-1); and the way back.
-ghost use Rattle.std.specs.Prelude.{◌≡◌, ℕ, ◌+◌, ◌-◌, ◌*◌, ◌^◌, ◌<◌, ◌≤◌, length, pos, ◌+ℤ◌, ◌-ℤ◌, neg_ℤ, slice_index_or};
-ghost use Rattle.loads.specs.Transform.{haar, unhaar, joined, parted, Near, Within, Whole};
+ghost use Rattle.std.specs.Prelude.{◌≡◌, ℕ, ◌+◌, ◌-◌, ◌*◌, ◌^◌, ◌<◌, ◌≤◌, length};
+ghost use Rattle.loads.specs.Transform.{haar, unhaar, joined, parted, Within};
+ghost use Rattle.loads.specs.Share.{Ready};
+
+use crate::reach::Reach;
+use crate::share::ChunkTree;
 
 // the first number and the one at half become their sum and their difference
 fn join(numbers: &mut [i64], half: usize)
@@ -15,7 +19,7 @@ fn join(numbers: &mut [i64], half: usize)
 
 // the way back
 fn part(numbers: &mut [i64], half: usize)
-    requires { (0 < half) × ((half < length numbers.old) × ((Near (2 ^ 62) (slice_index_or numbers.old 0 (pos 0) +ℤ slice_index_or numbers.old half (pos 0))) × (Near (2 ^ 62) (slice_index_or numbers.old 0 (pos 0) -ℤ slice_index_or numbers.old half (pos 0))))) }
+    requires { (0 < half) × ((half < length numbers.old) × (Within (2 ^ 61) numbers.old)) }
     ensures { numbers.new ≡ parted half numbers.old }
 {
     let s = numbers[0];
@@ -38,7 +42,7 @@ pub(crate) fn transform(numbers: &mut [i64], m: u8)
 }
 
 fn restore(numbers: &mut [i64], m: u8)
-    requires { (length numbers.old ≡ 2 ^ m) × (Whole m numbers.old) }
+    requires { (length numbers.old ≡ 2 ^ m) × (Within (2 ^ 61) numbers.old) }
     ensures { numbers.new ≡ unhaar m numbers.old }
 {
     if m == 0 {
@@ -50,26 +54,46 @@ fn restore(numbers: &mut [i64], m: u8)
     restore(&mut numbers[half..], m - 1);
 }
 
-// a caller's buffer while it holds the tree; dropped, it holds the values again
+// A caller's buffer while it holds the tree of a chunk's values; dropped, it holds the values again.
 pub struct Transformed<'a> {
     pub numbers: &'a mut [i64],
     pub level: u8,
+    ghost many: { length numbers.now ≡ 2 ^ level },
+    ghost small: { Within (2 ^ 61) numbers.now },
+}
+
+impl<'a> Transformed<'a> {
+    pub(crate) fn of(values: &'a mut [i64], level: u8) -> Transformed<'a>
+        requires { (length values.old ≡ 2 ^ level) × ((level ≤ 12) × (Within (2 ^ 31) values.old)) }
+        ensures same_buffer { result.numbers.ghost_name ≡ values.entry.ghost_name }
+        ensures level { result.level ≡ level }
+        ensures tree { Ready level result.numbers.now }
+        ensures back { unhaar result.level result.numbers.now ≡ values.old }
+    {
+        transform(values, level);
+        Transformed {
+            numbers: values,
+            level,
+        }
+    }
+
+    // What the buffer holds, as the tree of the chunk that has this reach.
+    pub(crate) fn tree(&self, reach: Reach) -> ChunkTree<'_>
+        requires { Ready reach.level self.now.numbers.now }
+        ensures { (result.reach ≡ reach) × (result.numbers.now ≡ self.now.numbers.now) }
+    {
+        ChunkTree {
+            numbers: &self.numbers[..],
+            reach,
+        }
+    }
 }
 
 impl Drop for Transformed<'_> {
     fn drop(self)
-        requires { (length self.numbers.now ≡ 2 ^ self.level) × (Whole self.level self.numbers.now) }
         ensures { self.exit.0.now ≡ unhaar self.entry.level self.entry.numbers.now }
     {
         let Transformed { numbers, level } = self;
         restore(numbers, level);
-    }
-}
-
-impl Transformed<'_> {
-    pub(crate) fn view(&self) -> &[i64]
-        ensures { result.now ≡ self.now.numbers.now }
-    {
-        &self.numbers[..]
     }
 }

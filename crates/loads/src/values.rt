@@ -1,7 +1,7 @@
 // Adding a chunk's values: the checks in their order, and the writing.
 ghost use Rattle.std.specs.Prelude.{◌≡◌, ℕ, ◌-◌, ◌*◌, ◌^◌, ◌<◌, ◌≤◌, true, false, length, pos, Some, None, slice_index_or};
 ghost use Rattle.warehouse.specs.View.{known};
-ghost use Rattle.loads.specs.Addition.{Lies, Limit, Limited, Additions};
+ghost use Rattle.loads.specs.Addition.{Limit, Limited, Additions};
 
 use crate::chunk::add_chunk;
 use crate::reach::Reach;
@@ -10,33 +10,15 @@ use store::interface::Store;
 use warehouse::fault::Fault;
 use warehouse::record::Warehouse;
 
-// the chunk is inside the size
-pub(crate) fn lies(size: u8, level: u8, index: u32) -> bool
-    requires { size ≤ 20 }
-    ensures yes { result ≡ true → Lies size level index }
-    ensures none { result ≡ false → Lies size level index → ⊥ }
-{
-    level <= size && index < 1 << (size - level)
-}
-
-fn in_limits(value: i64) -> bool
-    ensures yes { result ≡ true → Limit value }
-    ensures none { result ≡ false → Limit value → ⊥ }
-{
-    -2_147_483_648 <= value && value < 2_147_483_648
-}
-
 // the lowest place of a value outside its limits
 fn first_outside(values: &[i64]) -> Option<u32>
     requires { length values.now ≤ 4096 }
     ensures { elim result [ Some i ↦ (i < length values.now) × (Limit (slice_index_or values.now i (pos 0)) → ⊥) × Limited i values.now | None ↦ Limited (length values.now) values.now ] }
 {
-    for i in 0..values.len() {
-        if !in_limits(values[i]) {
-            return Some(i as u32);
-        }
-    }
-    None
+    let place = values
+        .iter()
+        .position(|value| i32::try_from(*value).is_err())?;
+    Some(place as u32)
 }
 
 pub(crate) fn add_values<S: Store>(
@@ -50,8 +32,7 @@ pub(crate) fn add_values<S: Store>(
     ensures restored { values.new ≡ values.old }
     ensures adds { Additions (known S.means warehouse.old) level index values.old result (known S.means warehouse.new) }
 {
-    let size = warehouse.size();
-    if !lies(size, level, index) {
+    if !warehouse.has(level, index) {
         return Err(Fault::Domain);
     }
     if let Some(place) = first_outside(values) {
@@ -63,7 +44,7 @@ pub(crate) fn add_values<S: Store>(
     }
     let reach = Reach {
         bands,
-        size,
+        size: warehouse.size(),
         level,
         index,
     };

@@ -7,12 +7,11 @@ mod tally;
 
 use compare::comparing::compare;
 use compare::comparison::Comparison;
-use feed::outcome::Outcome;
 use feed::run::{end, step};
-use feed::state::Loading;
 use flat::slice::Flat;
 use holdback::held::HoldBack;
 use std::io::Read;
+use std::ops::ControlFlow;
 use store::interface::Store;
 use store::sparse::Sparse;
 use tally::Tally;
@@ -34,21 +33,19 @@ fn play<K: Store, F: Store>(
     bytes: &[u8],
 ) -> Tally {
     let mut tally = Tally::new();
-    let mut loading = Loading::Idle;
-    let mut at = 0;
-    while at < bytes.len() {
-        let command = match decode(&bytes[at..]) {
-            Ok((command, _)) => command,
-            Err(_) => Command::GiveUp,
-        };
-        let (next, outcome) = step(kept, loading, buffer, &bytes[at..], at as u64);
+    let mut loading = None;
+    let mut rest = bytes;
+    while !rest.is_empty() {
+        let command = decode(rest).map_or(Command::GiveUp, |(command, _)| command);
+        let offset = (bytes.len() - rest.len()) as u64;
+        let (next, outcome) = step(kept, loading, buffer, rest, offset);
         loading = next;
         match outcome {
-            Outcome::On(line, width) => {
-                tally.note(fresh, minutes, buffer, command, line);
-                at = at.saturating_add(width.max(1));
+            ControlFlow::Continue(obeyed) => {
+                tally.note(fresh, minutes, buffer, command, obeyed.line);
+                rest = &rest[obeyed.width.clamp(1, rest.len())..];
             }
-            Outcome::End(_) => at = bytes.len(),
+            ControlFlow::Break(_) => rest = &[],
         }
     }
     let _ = end(loading);
@@ -56,20 +53,19 @@ fn play<K: Store, F: Store>(
 }
 
 fn report(rt: &HostRuntime, tally: &Tally, found: Comparison) -> anyhow::Result<()> {
-    let commands = tally.commands;
-    let compared = tally.compared;
-    let different = tally.different;
-    let points = tally.points;
-    println!(rt; "{commands} commands were played into a hold-back layer over a sparse store")?;
-    println!(rt; "{compared} answers were compared with the plain minutes: {different} differ")?;
     println!(rt;
-        "the accepted additions went into a flat store too, as {points} points, last minute first"
+        "{} commands were played into a hold-back layer over a sparse store",
+        tally.commands
     )?;
-    match found {
-        Comparison::Bands => println!(rt; "the two stores have not equally many bands")?,
-        Comparison::Differ(cell) => println!(rt; "the two warehouses differ first in cell {cell}")?,
-        Comparison::Alike => println!(rt; "the two warehouses share every cell")?,
-    }
+    println!(rt;
+        "{} answers were compared with the plain minutes: {} differ",
+        tally.compared, tally.different
+    )?;
+    println!(rt;
+        "the accepted additions went into a flat store too, as {} points, last minute first",
+        tally.points
+    )?;
+    println!(rt; "{found}")?;
     Ok(())
 }
 

@@ -1,9 +1,19 @@
 -- Counting nonzero cells.
-use Rattle.std.proofs.Common.{◌≡◌, ℕ, zero, suc, ◌+◌, ◌<◌, ℤ, pos, ◌+ℤ◌, sym, refl, ap, ap₂, ⊎_elim, arith}
+use Rattle.std.proofs.Common.{◌≡◌, ℕ, zero, suc, ◌+◌, ◌<◌, ◌≤◌, ℤ, pos, negsuc, ◌+ℤ◌, sym, refl, ap, ap₂, ⊎_elim, arith}
 use Rattle.std.proofs.lemmas.Int.{ints}
 use Rattle.std.proofs.lemmas.Bool.{cases_eq}
 use Rattle.haar.specs.Tiles.{cell_count}
 use Rattle.store.specs.Meaning.{Meaning, weight, filled, Put}
+
+pub weight_one : (z : ℤ) → (z ≡ pos 0 → ⊥) → weight z ≡ 1
+weight_one (pos zero) h = absurd (h refl)
+weight_one (pos (suc n)) h = refl
+weight_one (negsuc n) h = refl
+
+pub weight_most : (z : ℤ) → weight z ≤ 1
+weight_most (pos zero) = omega arith
+weight_most (pos (suc n)) = omega arith
+weight_most (negsuc n) = omega arith
 
 pub filled_same : (x y : ℕ → ℤ) (n : ℕ) → ((c : ℕ) → c < n → y c ≡ x c) → filled y n ≡ filled x n
 unfolding filled

@@ -1,18 +1,38 @@
 -- A table with one entry more than another: what an insertion leaves true, and, read backwards, what a removal does.
-use Rattle.std.proofs.Common.{◌≡◌, ℕ, ◌+◌, ◌-◌, ◌<◌, ◌≤◌, ◌⊎◌, List, pos, sym, refl, ap, ◌∙◌, subst, inl, inr, arith}
+use Rattle.std.proofs.Common.{◌≡◌, ℕ, ◌+◌, ◌-◌, ◌<◌, ◌≤◌, ◌⊎◌, List, length, set, ℤ, pos, sym, refl, ap, ◌∙◌, inl, inr, arith}
+use Rattle.std.specs.List.{CopiedTo, SameBelow}
 use Rattle.std.proofs.lemmas.Bool.{cases_lt, cases_order}
-use Rattle.haar.specs.Tiles.{cell_count}
+use Rattle.std.proofs.lemmas.List.{get_or-set_same, get_or-set_other}
 use Rattle.store.specs.declared.entry.Entry.{Entry}
-use Rattle.store.specs.Table.{entry_at, Every, Ascends, Gap, Inserted, Removed, lookup}
-use Rattle.store.proofs.Lookups.{carried}
-use Rattle.store.proofs.Sound.{Sound}
+use Rattle.store.specs.Meaning.{weight}
+use Rattle.store.specs.Table.{entry_at, Ascends, Lacks, Held, Gap, Stored, lookup}
+use Rattle.store.proofs.Counting.{weight_one}
+use Rattle.store.proofs.Lookups.{hit, miss, gap_lacks, carried}
+use Rattle.store.proofs.Tidy.{Tidy}
 
--- putting the removed entry in again
-pub removed_inserted : (es fs : List Entry) (at n : ℕ) → Removed es at n fs → Inserted fs at n (entry_at es at) es
-removed_inserted es fs at n r = record {
-  before = λ k l. sym (r.before k l);
+-- fs is es with a new entry at a place, and the n - at entries from there on one place up
+pub record Inserted (es : List Entry) (at n : ℕ) (new : Entry) (fs : List Entry) : Type 0 where
+  pub before : (k : ℕ) → k < at → entry_at fs k ≡ entry_at es k
+  pub here : entry_at fs at ≡ new
+  pub after : (k : ℕ) → at ≤ k → k < n → entry_at fs (k + 1) ≡ entry_at es k
+
+-- the entries from a place on copied one place up, and the new one written there
+pub copied_up : (es cs : List Entry) (at n : ℕ) (new : Entry) → at ≤ n → n < length es → length cs ≡ length es → CopiedTo es cs at (at + 1) (n - at) → SameBelow es cs (at + 1)
+    → Inserted es at n new (set cs at new)
+copied_up es cs at n new within room len copied below = record {
+  before = λ k l. get_or-set_other cs at k new _ (λ q. omega arith) ∙ below k _ (omega arith);
+  here = get_or-set_same cs at new _ (omega arith);
+  after = λ k u l.
+      get_or-set_other cs at (k + 1) new _ (λ q. omega arith) ∙ copied (k + 1) _ (omega arith) (omega arith)
+      ∙ ap (entry_at es) (let e : at + (k + 1 - (at + 1)) ≡ k = omega arith in e);
+}
+
+-- the entries after a place copied one place down
+pub copied_down : (es cs : List Entry) (at n : ℕ) → at < n → CopiedTo es cs (at + 1) at (n - (at + 1)) → SameBelow es cs at → Inserted cs at (n - 1) (entry_at es at) es
+copied_down es cs at n l copied below = record {
+  before = λ k u. sym (below k _ u);
   here = refl;
-  after = λ k u l. sym (r.after k u l);
+  after = λ k u v. sym (copied k _ u (omega arith) ∙ ap (entry_at es) (let e : at + 1 + (k - at) ≡ k + 1 = omega arith in e));
 }
 
 module _ (es fs : List Entry) (at n m : ℕ) (new : Entry) (more : m ≡ n + 1) (within : at ≤ n) (i : Inserted es at n new fs) where
@@ -38,16 +58,6 @@ module _ (es fs : List Entry) (at n m : ℕ) (new : Entry) (more : m ≡ n + 1) 
         | inr (inl u) ↦ inr (k, omega arith, sym (i.before k u))
         | inr (inr u) ↦ inr (k - 1, omega arith, sym (moved k u l))
       ]
-
-  every_more : (P : Entry → Type 0) → P new → Every P es n → Every P fs m
-  every_more P p h k l =
-      elim (back k l) [
-        | inl e ↦ subst P (sym e) p
-        | inr g ↦ subst P g.2 (h g.0 g.1)
-      ]
-
-  every_less : (P : Entry → Type 0) → Every P fs m → Every P es n
-  every_less P h k l = let g = there k l in subst P g.2 (h g.0 g.1)
 
   pub ascends_more : Ascends es n → Gap es n new.cell at → Ascends fs m
   ascends_more a g j k jk km =
@@ -112,16 +122,20 @@ module _ (es fs : List Entry) (at n m : ℕ) (new : Entry) (more : m ≡ n + 1) 
         | inr g ↦ g
       ])
 
-  pub sound_more : (T : ℕ) → Sound T es n → Gap es n new.cell at → (new.value ≡ pos 0 → ⊥) → new.cell < cell_count T → Sound T fs m
-  sound_more T s g z h = record {
-    ascends = ascends_more s.ascends g;
-    nonzero = every_more (λ (e : Entry). e.value ≡ pos 0 → ⊥) z s.nonzero;
-    inside = every_more (λ (e : Entry). e.cell < cell_count T) h s.inside;
-  }
+  pub stored_more : (v : ℤ) → new.value ≡ v → (v ≡ pos 0 → ⊥) → Ascends es n → Gap es n new.cell at → Stored es n new.cell v fs m
+  stored_more v e z a g =
+      let b = ascends_more a g in
+      let none = ap weight (miss es n new.cell (gap_lacks es n _ at g)) in
+      let is = hit fs m _ at b (record { used = omega arith; is = ap (λ (x : Entry). x.cell) i.here }) ∙ ap (λ (x : Entry). x.value) i.here ∙ e in
+      record { here = is; others = λ c ne. others a b c ne; used = omega (arith, weight_one v z) }
 
-  pub sound_less : (T : ℕ) → Sound T fs m → Sound T es n
-  sound_less T s = record {
-    ascends = ascends_less s.ascends;
-    nonzero = every_less (λ (e : Entry). e.value ≡ pos 0 → ⊥) s.nonzero;
-    inside = every_less (λ (e : Entry). e.cell < cell_count T) s.inside;
-  }
+  pub stored_less : Tidy fs m → Stored fs m new.cell (pos 0) es n
+  stored_less t =
+      let a = ascends_less t.ascends in
+      let held : Held fs m new.cell at = record { used = omega arith; is = ap (λ (x : Entry). x.cell) i.here } in
+      let one = ap weight (hit fs m _ at t.ascends held) ∙ weight_one _ (t.nonzero at (omega arith)) in
+      let lacks : Lacks es n new.cell = λ k l q. elim (cases_lt k at) [
+        | inl u ↦ let up = t.ascends k at u (omega arith) in let ck = ap (λ (x : Entry). x.cell) (i.before k u) in let c = held.is in omega arith
+        | inr u ↦ let up = t.ascends at (k + 1) (omega arith) (omega arith) in let ck = ap (λ (x : Entry). x.cell) (i.after k u l) in let c = held.is in omega arith
+      ] in
+      record { here = miss es n _ lacks; others = λ c ne. sym (others a t.ascends c ne); used = omega arith }

@@ -1,9 +1,10 @@
 -- What a lookup finds in a table.
-use Rattle.std.proofs.Common.{◌≡◌, ℕ, zero, suc, ◌<◌, ◌⊎◌, List, pos, sym, refl, ap, ◌∙◌, inl, inr, arith}
+use Rattle.std.proofs.Common.{◌≡◌, ℕ, zero, suc, ◌<◌, ◌⊎◌, List, ℤ, pos, Option, Some, None, sym, refl, ap, ◌∙◌, inl, inr, arith}
 use Rattle.std.proofs.lemmas.Bool.{cases_eq, cases_lt}
 use Rattle.std.proofs.lemmas.Bool.Decides.{nat_tests}
 use Rattle.store.specs.declared.entry.Entry.{Entry}
-use Rattle.store.specs.Table.{entry_at, lookup, Ascends, Lacks, Held, Gap}
+use Rattle.std.specs.Option.{unwrap_or}
+use Rattle.store.specs.Table.{entry_at, lookup, Ascends, Lacks, Held, Gap, Finds}
 
 -- no entry has the cell
 pub miss : (es : List Entry) (n c : ℕ) → Lacks es n c → lookup es n c ≡ pos 0
@@ -68,3 +69,8 @@ carried es fs n m c a b there back =
           miss fs m c (λ k l e. let g = back k (record { used = l; is = e }) in lacks g.0 g.1 (ap (λ (x : Entry). x.cell) g.2 ∙ e))
           ∙ sym (miss es n c lacks)
     ]
+
+-- the number of a cell, from what a lookup answers
+pub found : (es : List Entry) (n c : ℕ) (r : Option ℤ) → Finds es n c r → lookup es n c ≡ unwrap_or r (pos 0)
+found es n c (Some v) f = f.0
+found es n c None f = miss es n c f

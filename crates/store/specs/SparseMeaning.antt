@@ -9,7 +9,7 @@ use Rattle.store.specs.Table.{table_means}
 
 -- bands, cells by lookup in the table, room by capacity, and always clean
 abbrev pub sparse_means : Sparse → Meaning
-sparse_means s = table_means s.entries s.used s.bands s.capacity
+sparse_means s = table_means s.table.entries s.table.used s.bands s.capacity
 
 -- a number brought into limits
 abbrev pub nearest : ℕ → ℕ → ℕ → ℕ

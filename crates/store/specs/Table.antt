@@ -1,4 +1,4 @@
--- The sparse store's table: entries sorted by cell, of which the first n are in use.
+-- A table: entries sorted by cell, of which the first n are in use.
 --   entry_at es k      the entry at place k
 --   Every P es n       P holds of each entry in use
 --   Ascends            cells rise from entry to entry, so that no cell has two
@@ -7,13 +7,16 @@
 --   Lacks              no entry in use has the cell
 --   lookup             the number of a cell: that of its entry, or zero
 --   Held, Gap          where a cell's entry is, or where a new one would stand
---   Placed             the first place whose cell is not below the one looked for
---   Inserted, Removed  an entry more at a place, or the one there gone
+--   Finds              what a lookup answers: the number of the cell's entry, or none
+--   Stored             a table with another number for one cell
+--   Overfills, Puts    whether a number needs a new entry past the most, and what writing it answers and does
 --   table_means        what a table means as a store
-use Rattle.std.specs.Prelude.{◌≡◌, ℕ, zero, suc, ◌+◌, ◌-◌, ◌<◌, ◌≤◌, true, cond, List, ℤ, pos, ◌==◌, ◌≢◌, slice_index_or}
+use Rattle.std.specs.Prelude.{◌≡◌, ℕ, zero, suc, ◌+◌, ◌-◌, ◌<◌, ◌≤◌, true, cond, List, ℤ, pos, Option, MatchOption, Ok, Err, Result, ◌==◌, ◌≢◌, slice_index_or}
 use Rattle.haar.specs.Tiles.{cell_count}
 use Rattle.store.specs.declared.entry.Entry.{Entry}
-use Rattle.store.specs.Meaning.{Meaning}
+use Rattle.store.specs.declared.fault.CellFault.{CellFault}
+use Rattle.store.specs.declared.fault.CellFault.TheVariants.{Full}
+use Rattle.store.specs.Meaning.{Meaning, weight}
 
 -- the entry at a place, and the empty one past the table's end
 abbrev pub entry_at : List Entry → ℕ → Entry
@@ -55,22 +58,26 @@ pub record Gap (es : List Entry) (n c at : ℕ) : Type 0 where
   pub below : (k : ℕ) → k < at → (entry_at es k).cell < c
   pub above : (k : ℕ) → at ≤ k → k < n → c < (entry_at es k).cell
 
--- the first place whose cell is not below c
-pub record Placed (es : List Entry) (n c at : ℕ) : Type 0 where
-  pub within : at ≤ n
-  pub below : (k : ℕ) → k < at → (entry_at es k).cell < c
-  pub above : (k : ℕ) → at ≤ k → k < n → c ≤ (entry_at es k).cell
+-- the number of the cell's entry, which is not zero, or none
+abbrev pub Finds : List Entry → ℕ → ℕ → Option ℤ → Type 0
+Finds es n c r = MatchOption r (Lacks es n c) (λ v. (lookup es n c ≡ v) × (v ≢ pos 0))
 
--- fs is es with a new entry at a place, and the n - at entries from there on one place up
-pub record Inserted (es : List Entry) (at n : ℕ) (new : Entry) (fs : List Entry) : Type 0 where
-  pub before : (k : ℕ) → k < at → entry_at fs k ≡ entry_at es k
-  pub here : entry_at fs at ≡ new
-  pub after : (k : ℕ) → at ≤ k → k < n → entry_at fs (k + 1) ≡ entry_at es k
+-- the first k entries of fs are the first n of es with v for cell c; zero has no entry
+pub record Stored (es : List Entry) (n c : ℕ) (v : ℤ) (fs : List Entry) (k : ℕ) : Type 0 where
+  pub here : lookup fs k c ≡ v
+  pub others : (d : ℕ) → (d ≢ c) → lookup fs k d ≡ lookup es n d
+  pub used : k + weight (lookup es n c) ≡ n + weight v
 
--- fs is es without the entry at a place, and those after it, up to place n, one place down
-pub record Removed (es : List Entry) (at n : ℕ) (fs : List Entry) : Type 0 where
-  pub before : (k : ℕ) → k < at → entry_at fs k ≡ entry_at es k
-  pub after : (k : ℕ) → at ≤ k → k < n → entry_at fs k ≡ entry_at es (k + 1)
+-- v needs a new entry for cell c, and as many as allowed are in use
+abbrev pub Overfills : ℕ → List Entry → ℕ → ℕ → ℤ → Type 0
+Overfills most es n c v = (weight (lookup es n c) ≡ 0) × (weight v ≡ 1) × (most ≤ n)
+
+-- v put in cell c of a table of at most so many entries, with the answer r
+pub record Puts (most : ℕ) (es : List Entry) (n c : ℕ) (v : ℤ) (r : Result Unit CellFault) (fs : List Entry) (k : ℕ) : Type 0 where
+  pub full : Overfills most es n c v → r ≡ Err (Full c)
+  pub done : (Overfills most es n c v → ⊥) → r ≡ Ok tt
+  pub stored : r ≡ Ok tt → Stored es n c v fs k
+  pub kept : (f : CellFault) → r ≡ Err f → (fs ≡ es) × (k ≡ n)
 
 -- what n entries in use mean as a store of so many bands and such a capacity
 abbrev pub table_means : List Entry → ℕ → ℕ → ℕ → Meaning

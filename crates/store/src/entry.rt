@@ -1,5 +1,5 @@
-// One cell and its number, as the sparse store's table keeps them.
-#[derive(Clone, Copy)]
+// One cell and its number, as a table keeps them.
+#[derive(Clone, Copy, PartialEq, Eq, Debug)]
 pub struct Entry {
     pub cell: u32,
     pub value: i64,
@@ -7,6 +7,3 @@ pub struct Entry {
 
 // what stands in a place that is not in use
 pub const EMPTY: Entry = Entry { cell: 0, value: 0 };
-
-// how many places a table has
-pub const SIZE: usize = 1024;

@@ -1,5 +1,5 @@
 // Why a store refuses a cell.
-#[derive(Clone, Copy)]
+#[derive(Clone, Copy, PartialEq, Eq, Debug)]
 pub enum CellFault {
     // the cell is at or past the cell count
     Cell(u32),

@@ -28,4 +28,6 @@ pub trait Store {
     // brings what is held back to its place; cells and room stay
     fn settle(&mut self)
         ensures { Settles (means self.old) (means self.new) };
+
+    ghost laws: { (s : Self) → Lawful (means s) };
 }

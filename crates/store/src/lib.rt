@@ -4,6 +4,7 @@
 pub mod entry;
 pub mod fault;
 pub mod interface;
+pub mod making;
 pub mod numbers;
 pub mod sparse;
 pub mod sparse_store;

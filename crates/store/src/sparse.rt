@@ -1,22 +1,21 @@
-// The sparse store: a table of the nonzero cells, sorted by cell.
+// The sparse store: a table of the nonzero cells.
 ghost use Rattle.std.specs.Prelude.{◌≤◌};
-ghost use Rattle.store.specs.Table.{Ascends, Nonzero, Inside};
+ghost use Rattle.store.specs.Table.{Inside};
 
-use crate::entry::{Entry, SIZE};
+use crate::table::Table;
+
+// how many places the table has
+pub const SIZE: usize = 1024;
 
 #[derive(Drop)]
 pub struct Sparse {
-    pub(crate) entries: [Entry; SIZE],
-    // how many entries are in use, from the first on
-    pub(crate) used: u16,
-    pub(crate) capacity: u16,
+    pub(crate) table: Table<SIZE>,
+    pub(crate) capacity: usize,
     pub(crate) bands: u8,
-    ghost spare: { used ≤ capacity },
+    ghost spare: { table.used ≤ capacity },
     ghost bounded: { capacity ≤ 1024 },
     ghost roomy: { 1 ≤ capacity },
     ghost few: { bands ≤ 5 },
     ghost some: { 1 ≤ bands },
-    ghost ascends: { Ascends entries used },
-    ghost nonzero: { Nonzero entries used },
-    ghost inside: { Inside bands entries used },
+    ghost inside: { Inside bands table.entries table.used },
 }

@@ -1,87 +1,103 @@
-// The sparse store's table: made, searched by halving, and changed by one entry.
-ghost use Rattle.std.specs.Prelude.{◌≡◌, ◌<◌, ◌≤◌, length, pos, MatchResult, ◌≢◌};
-ghost use Rattle.haar.specs.Tiles.{cell_count};
-ghost use Rattle.store.specs.Meaning.{Put};
-ghost use Rattle.store.specs.Table.{Placed, Held, Gap, Inserted, Removed, entry_at};
-ghost use Rattle.store.specs.SparseMeaning.{Made, sparse_means};
+// A table of the nonzero numbers of some cells, sorted by cell.
+ghost use Rattle.std.specs.Prelude.{◌≡◌, ◌<◌, ◌≤◌, ◌≢◌, length, min, take, pos, MatchOption, MatchResult};
+ghost use Rattle.store.specs.Table.{Ascends, Nonzero, Lacks, Finds, Held, Gap, Stored, Puts, entry_at};
 
-use crate::entry::{EMPTY, Entry, SIZE};
-use crate::sparse::Sparse;
+use crate::entry::{EMPTY, Entry};
+use crate::fault::CellFault;
 
-impl Sparse {
-    // An empty store; bands and capacity outside their limits become the nearest inside.
-    pub fn new(bands: u8, capacity: u16) -> Sparse
-        ensures { Made bands capacity (sparse_means result) }
+#[derive(Drop)]
+pub struct Table<const N: usize> {
+    entries: [Entry; N],
+    // how many entries are in use, from the first on
+    used: usize,
+    ghost within: { used ≤ N },
+    ghost ascends: { Ascends entries used },
+    ghost nonzero: { Nonzero entries used },
+}
+
+impl<const N: usize> Table<N> {
+    pub fn new() -> Table<N>
+        ensures { result.used ≡ 0 }
     {
-        Sparse {
-            entries: [EMPTY; SIZE],
+        Table {
+            entries: [EMPTY; N],
             used: 0,
-            capacity: capacity.clamp(1, SIZE as u16),
-            bands: bands.clamp(1, 5),
         }
     }
 
-    // The first place whose cell is not below the one looked for.
-    fn place(&self, cell: u32) -> usize
-        ensures { Placed self.now.entries self.now.used cell result }
+    // The entries in use, in rising cell number.
+    pub fn entries(&self) -> &[Entry]
+        ensures len { length result.now ≡ self.now.used }
+        ensures all { result.now ≡ take self.now.used self.now.entries }
     {
-        let mut low: usize = 0;
-        let mut high = self.used as usize;
-        while low < high {
-            let middle = low + (high - low) / 2;
-            if self.entries[middle].cell < cell {
-                low = middle + 1;
-            } else {
-                high = middle;
-            }
+        &self.entries[..self.used]
+    }
+
+    // The number of a cell that has one.
+    pub fn get(&self, cell: u32) -> Option<i64>
+        ensures { Finds self.now.entries self.now.used cell result }
+    {
+        let at = self.find(cell).ok()?;
+        Some(self.entries[at].value)
+    }
+
+    // Another number for a cell; zero takes its entry out. A new entry is refused where `most` or all are in use.
+    pub fn put(&mut self, cell: u32, value: i64, most: usize) -> Result<(), CellFault>
+        ensures { Puts (min most N) self.old.entries self.old.used cell value result self.new.entries self.new.used }
+    {
+        if value == 0 {
+            self.remove(cell);
+            return Ok(());
         }
-        low
+        match self.find(cell) {
+            Ok(at) => self.change(at, value),
+            Err(_) if self.used >= most.min(N) => return Err(CellFault::Full(cell)),
+            Err(at) => self.insert(at, Entry { cell, value }),
+        }
+        Ok(())
+    }
+
+    // Takes a cell's entry out, if it has one.
+    pub fn remove(&mut self, cell: u32)
+        ensures { Stored self.old.entries self.old.used cell (pos 0) self.new.entries self.new.used }
+    {
+        if let Ok(at) = self.find(cell) {
+            self.close(at);
+        }
+    }
+
+    // Takes all entries out.
+    pub fn clear(&mut self)
+        ensures { self.new.used ≡ 0 }
+    {
+        self.used = 0;
     }
 
     // Where the cell's entry is, or else where it would stand.
-    pub(crate) fn find(&self, cell: u32) -> Result<usize, usize>
+    fn find(&self, cell: u32) -> Result<usize, usize>
         ensures { MatchResult result (Held self.now.entries self.now.used cell) (Gap self.now.entries self.now.used cell) }
     {
-        let at = self.place(cell);
-        if at < self.used as usize && self.entries[at].cell == cell {
-            Ok(at)
-        } else {
-            Err(at)
-        }
+        self.entries[..self.used].binary_search_by_key(&cell, |entry| entry.cell)
     }
 
-    // A new entry at its place.
-    pub(crate) fn insert(&mut self, at: usize, cell: u32, value: i64)
-        requires gap { Gap self.old.entries self.old.used cell at }
-        requires room { self.old.used < self.old.capacity }
-        requires inside { cell < cell_count self.old.bands }
-        requires nonzero { value ≢ pos 0 }
-        ensures { Put (sparse_means self.old) cell value (sparse_means self.new) }
+    // A new entry at its place: those from there on go one up.
+    fn insert(&mut self, at: usize, new: Entry)
+        requires gap { Gap self.old.entries self.old.used new.cell at }
+        requires free { self.old.used < N }
+        requires nonzero { new.value ≢ pos 0 }
+        ensures { Stored self.old.entries self.old.used new.cell new.value self.new.entries self.new.used }
     {
-        let used = self.used as usize;
-        shift_up(&mut self.entries, at, used, Entry { cell, value });
+        self.entries.copy_within(at..self.used, at + 1);
+        self.entries[at] = new;
         self.used += 1;
     }
 
-    // The number of an entry replaced; zero takes the entry out.
-    pub(crate) fn replace(&mut self, at: usize, value: i64)
+    // An entry taken out: those after it go one down.
+    fn close(&mut self, at: usize)
         requires { at < self.old.used }
-        ensures { Put (sparse_means self.old) (entry_at self.old.entries at).cell value (sparse_means self.new) }
+        ensures { Stored self.old.entries self.old.used (entry_at self.old.entries at).cell (pos 0) self.new.entries self.new.used }
     {
-        if value == 0 {
-            self.remove(at);
-        } else {
-            self.change(at, value);
-        }
-    }
-
-    // An entry taken out.
-    fn remove(&mut self, at: usize)
-        requires { at < self.old.used }
-        ensures { Put (sparse_means self.old) (entry_at self.old.entries at).cell (pos 0) (sparse_means self.new) }
-    {
-        let last = self.used as usize - 1;
-        shift_down(&mut self.entries, at, last);
+        self.entries.copy_within(at + 1..self.used, at);
         self.used -= 1;
     }
 
@@ -89,34 +105,9 @@ impl Sparse {
     fn change(&mut self, at: usize, value: i64)
         requires used { at < self.old.used }
         requires nonzero { value ≢ pos 0 }
-        ensures { Put (sparse_means self.old) (entry_at self.old.entries at).cell value (sparse_means self.new) }
+        ensures { Stored self.old.entries self.old.used (entry_at self.old.entries at).cell value self.new.entries self.new.used }
     {
         let entry = &mut self.entries[at];
         entry.value = value;
-    }
-}
-
-// Makes a place for a new entry: those from there on go one up.
-fn shift_up(entries: &mut [Entry], at: usize, used: usize, new: Entry)
-    requires within { at ≤ used }
-    requires room { used < length entries.old }
-    ensures { Inserted entries.old at used new entries.new }
-{
-    let mut i = used;
-    while i > at {
-        entries[i] = entries[i - 1];
-        i -= 1;
-    }
-    entries[at] = new;
-}
-
-// Closes the place of an entry: those after it, up to the last, go one down.
-fn shift_down(entries: &mut [Entry], at: usize, last: usize)
-    requires within { at ≤ last }
-    requires there { last < length entries.old }
-    ensures { Removed entries.old at last entries.new }
-{
-    for i in at..last {
-        entries[i] = entries[i + 1];
     }
 }

@@ -3,7 +3,7 @@ use Rattle.std.proofs.Common.{◌≡◌, ℕ, zero, suc, ◌+◌, ◌-◌, ◌*�
 use Rattle.haar.specs.Places.{InTree, DifferenceCell, SumCell}
 use Rattle.haar.proofs.Split.{shift_suc}
 use Rattle.warehouse.specs.declared.fault.Fault.{Fault}
-use Rattle.warehouse.specs.Read.{◌then◌, sight, halve, beside, lower, descend, start, first_cell, read}
+use Rattle.warehouse.specs.Read.{◌then◌, sight, beside, lower, descend, start, first_cell, read}
 use Rattle.warehouse.proofs.Halves.{Small, sight_small, halve_small}
 
 -- the cell beside S(j,k)
@@ -36,10 +36,6 @@ module _ (T T' j k : ℕ) (r : Option ℕ) (e : T' ≡ T) (tree : InTree T j k) 
 
   pub first_found : (cell : ℕ) → r ≡ Some cell → cell ≡ first_cell T j k
   first_found cell q = let u = first_is in cc
-
-pub lower_at : (T : ℕ) (look : ℕ → Result ℤ Fault) (j k cell : ℕ) (s : ℤ) → cell ≡ beside T j k → ◌then◌ (sight cell (look cell)) (halve cell k s) ≡ lower T look j k s
-unfolding lower
-lower_at T look j k cell s e = ap (λ c. ◌then◌ (sight c (look c)) (halve c k s)) e
 
 then_small : (r : Result ℤ Fault) (go : ℤ → Result ℤ Fault) → Small r → ((v : ℤ) → nat_abs v ≤ 2 ^ 56 → Small (go v)) → Small (◌then◌ r go)
 then_small (Ok v) go a b = b v a

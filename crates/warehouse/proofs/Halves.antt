@@ -1,7 +1,7 @@
 -- Halving a sum exactly, as the machine's operators do it.
 use Rattle.std.proofs.Common.{◌≡◌, ℕ, suc, ◌/◌, ◌%◌, ◌^◌, ◌≤◌, Bool, true, false, cond, eqb, leb, ℤ, pos, negsuc, ◌+ℤ◌, ◌-ℤ◌, neg_ℤ, nat_abs, IfOk, Ok, Err, Result, sym, refl, ap, ◌∙◌, ap₂, arith, w64, SFits, to_z, of_z}
 use lib.Signed.{quot_z}
-use Rattle.std.proofs.lemmas.Int.{ints, to_z-of_z}
+use Rattle.std.proofs.lemmas.Int.{ints, to_z-of_z, fits_signed_from_abs}
 use Rattle.std.proofs.lemmas.Bool.{leb-true, eq-eqb, ne_eqb, cond-true, cond-false}
 use Rattle.warehouse.specs.declared.fault.Fault.{Fault}
 use Rattle.warehouse.specs.declared.fault.Fault.TheVariants.{Torn}
@@ -14,10 +14,6 @@ negated a b e = ap (λ x. neg_ℤ (pos x)) e
 quotient_half : (z : ℤ) → nat_abs z % 2 ≡ 0 → quot_z z (pos 2) ≡ half z
 quotient_half (pos a) e = refl
 quotient_half (negsuc a) e = negated (suc a / 2) (a / 2) (omega arith)
-
-fit_small : (z : ℤ) → nat_abs z ≤ 2 ^ 57 → SFits w64 z
-fit_small (pos a) h = record { sfits = omega arith }
-fit_small (negsuc a) h = record { sfits = omega arith }
 
 half_small : (z : ℤ) → nat_abs z ≤ 2 ^ 57 → nat_abs (half z) ≤ 2 ^ 56
 half_small (pos a) h = omega arith
@@ -53,7 +49,7 @@ module _ (cell k : ℕ) (s d : ℤ) (a : nat_abs s ≤ 2 ^ 56) (b : nat_abs d �
 quotient : (z : ℤ) → nat_abs z ≤ 2 ^ 57 → nat_abs z % 2 ≡ 0 → to_z w64 (of_z w64 (quot_z (to_z w64 (of_z w64 z)) (pos 2))) ≡ half z
 quotient z b e =
     let h = half_small z b in
-    ap (λ x. to_z w64 (of_z w64 (quot_z x (pos 2)))) (to_z-of_z w64 z (fit_small z b)) ∙ ap (λ x. to_z w64 (of_z w64 x)) (quotient_half z e) ∙ to_z-of_z w64 (half z) (fit_small (half z) (omega arith))
+    ap (λ x. to_z w64 (of_z w64 (quot_z x (pos 2)))) (to_z-of_z w64 z (fits_signed_from_abs w64 z (omega arith))) ∙ ap (λ x. to_z w64 (of_z w64 x)) (quotient_half z e) ∙ to_z-of_z w64 (half z) (fits_signed_from_abs w64 (half z) (omega arith))
 
 module _ (cell k : ℕ) (s d : ℤ) (a : nat_abs s ≤ 2 ^ 56) (b : nat_abs d ≤ 2 ^ 56) (f : SFits w64 s) (g : SFits w64 d) (even : nat_abs (s +ℤ d) % 2 ≡ 0) where
   passed : halve cell k s d ≡ Ok (cond (eqb (k % 2) 0) (half (s +ℤ d)) (half (s -ℤ d)))

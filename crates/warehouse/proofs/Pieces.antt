@@ -142,18 +142,5 @@ module _ (n k a b j : ℕ) (small : n ≤ 20) (lt : a < b) (inside : b ≤ 2 ^ n
       ended p.0 l (λ _. rounder a (suc j) p.0 l p.1) p.3)
       s
 
--- what the search from the top answers
-pub record Found (n a b r : ℕ) : Type 0 where
-  pub is : r ≡ longest n a b
-  pub low : r ≤ 20
-  pub end : a < b → a + 2 ^ r ≤ b
-
-pub found : (n a b l : ℕ) → n ≤ 20 → l ≤ n → longest n a b ≡ longest l a b → longest l a b ≡ l → Found n a b l
-found n a b l h k e q = record {
-  is = sym (e ∙ q);
-  low = omega arith;
-  end = λ lt. let u = (longest_is n a b lt).here.ends in let p = ap (λ x. 2 ^ x) (e ∙ q) in omega arith;
-}
-
 pub below_top : (n a b : ℕ) → n ≤ 20 → b ≤ 2 ^ n → a < b → a < 2 ^ 20
 below_top n a b h k l = let p : 2 ^ n ≤ 2 ^ 20 = pow_mono {i = n} {j = 20} h in omega arith

@@ -1,7 +1,7 @@
 -- A range, read interval by interval: what is read so far, and what is left.
-use Rattle.std.proofs.Common.{◌≡◌, ℕ, suc, ◌+◌, ◌-◌, ◌*◌, ◌/◌, ◌^◌, ◌<◌, ◌≤◌, ℤ, pos, ◌+ℤ◌, nat_abs, Ok, Err, Result, sym, refl, ap, ◌∙◌, subst, ap₂, inl, arith, shr_lt}
+use Rattle.std.proofs.Common.{◌≡◌, ℕ, suc, ◌+◌, ◌-◌, ◌*◌, ◌/◌, ◌^◌, ◌<◌, ◌≤◌, ℤ, pos, ◌+ℤ◌, nat_abs, Ok, Err, Result, sym, refl, ap, ◌∙◌, subst, ap₂, inl, arith, shr_lt, w64, SFits, to_z, of_z}
 use Rattle.haar.proofs.Numbers.{same_pow}
-use Rattle.std.proofs.lemmas.Int.{ints}
+use Rattle.std.proofs.lemmas.Int.{ints, to_z-of_z, fits_signed_from_abs}
 use Rattle.warehouse.specs.declared.fault.Fault.{Fault}
 use Rattle.warehouse.specs.declared.reading.Reading.{Reading}
 use Rattle.warehouse.specs.Ask.{counted, piece, range_reading}
@@ -9,6 +9,20 @@ use Rattle.warehouse.specs.Read.{◌then◌, read, cells_read, longest, read_all
 use Rattle.warehouse.proofs.Descents.{read_small}
 use Rattle.warehouse.proofs.Halves.{Small}
 use Rattle.warehouse.proofs.Pieces.{longest_is, pieces_more, pieces_none, cells_few, Stage, stage_few, stage_more}
+
+-- a small sum and a piece's, added by the machine
+module _ (s p : ℤ) (a : nat_abs s ≤ 2 ^ 62) (b : nat_abs p ≤ 2 ^ 56) where
+  read_back : to_z w64 (of_z w64 s) +ℤ to_z w64 (of_z w64 p) ≡ s +ℤ p
+  read_back = ap₂ (λ x y. x +ℤ y) (to_z-of_z w64 s (fits_signed_from_abs w64 s (omega arith))) (to_z-of_z w64 p (fits_signed_from_abs w64 p (omega arith)))
+
+  both_fit : SFits w64 (s +ℤ p)
+  both_fit = fits_signed_from_abs w64 (s +ℤ p) (omega (arith, ints))
+
+  pub added_fits : SFits w64 (to_z w64 (of_z w64 s) +ℤ to_z w64 (of_z w64 p))
+  added_fits = subst (SFits w64) (sym read_back) both_fit
+
+  pub added : to_z w64 (of_z w64 (to_z w64 (of_z w64 s) +ℤ to_z w64 (of_z w64 p))) ≡ s +ℤ p
+  added = ap (λ x. to_z w64 (of_z w64 x)) read_back ∙ to_z-of_z w64 (s +ℤ p) both_fit
 
 -- a sum that is carried on
 carried : (r : Result ℤ Fault) (v s : ℤ) → ◌then◌ (◌then◌ r (λ x. Ok (s +ℤ x))) (λ x. Ok (v +ℤ x)) ≡ ◌then◌ r (λ x. Ok ((v +ℤ s) +ℤ x))

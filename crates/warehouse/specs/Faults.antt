@@ -24,10 +24,6 @@ fault_number (Torn c) = 27
 fault_number (Dirty c) = 28
 fault_number (Fine c) = 29
 
-abbrev pub asking : {X : Type 0} → Result X Fault → Asked → Result X (Fault × Asked)
-asking (Ok x) asked = Ok x
-asking (Err f) asked = Err (f, asked)
-
 -- an answer without what its refusal repeats
 abbrev pub fault_alone : {X : Type 0} → Result X Refusal → Result X Fault
 fault_alone (Ok x) = Ok x

@@ -7,7 +7,7 @@ use Rattle.haar.specs.Tiles.{cell_count}
 use Rattle.store.specs.Meaning.{Meaning}
 use Rattle.warehouse.specs.declared.fault.Asked.TheVariants as asked
 use Rattle.warehouse.specs.declared.fault.Fault.{Fault}
-use Rattle.warehouse.specs.declared.fault.Fault.TheVariants.{Cell, Level, Value, Buffer, Range, Interval, Size, Domain, Large, Full, Top, Short, Over, Torn, Dirty, Fine}
+use Rattle.warehouse.specs.declared.fault.Fault.TheVariants.{Size, Dirty}
 use Rattle.warehouse.specs.declared.fault.Refusal.{Refusal}
 use Rattle.warehouse.specs.Faults.{fault_alone, Repeats}
 use Rattle.warehouse.specs.View.{View}
@@ -35,20 +35,7 @@ Soiled m c =
 abbrev pub Unfit : Meaning → ℕ → Fault → Type 0
 Unfit m n Size = Sized m n → ⊥
 Unfit m n (Dirty c) = Sized m n × Soiled m c
-Unfit m n (Cell f) = ⊥
-Unfit m n Level = ⊥
-Unfit m n (Value i) = ⊥
-Unfit m n Buffer = ⊥
-Unfit m n Range = ⊥
-Unfit m n Interval = ⊥
-Unfit m n Domain = ⊥
-Unfit m n (Large c) = ⊥
-Unfit m n Full = ⊥
-Unfit m n Top = ⊥
-Unfit m n Short = ⊥
-Unfit m n Over = ⊥
-Unfit m n (Torn c) = ⊥
-Unfit m n (Fine c) = ⊥
+Unfit m n _ = ⊥
 
 abbrev pub Surveyed : Meaning → ℕ → Result Unit Fault → Type 0
 Surveyed m n (Ok _) = Founded (record { size = n; store = m })

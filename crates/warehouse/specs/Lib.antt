@@ -6,3 +6,4 @@ pub mod Ask
 pub mod Faithful
 pub mod Laws
 pub mod Grading
+pub mod Words

@@ -4,43 +4,50 @@ ghost use Rattle.warehouse.specs.Ask.{point_reading, sum_reading, mean_reading, 
 ghost use Rattle.warehouse.specs.View.{known};
 
 use crate::fault::{Asked, Fault, Refusal};
-use crate::numbers::asking;
-use crate::range::read_range;
-use crate::read::read_piece;
 use crate::reading::Reading;
 use crate::record::Warehouse;
 use store::interface::Store;
 
+#[tactic(auto, unfolding(crate::specs::Ask::point_answer, crate::specs::Ask::sum_answer, crate::specs::Ask::mean_answer))]
 impl<S: Store> Warehouse<S> {
     // The value of one minute.
     pub fn point(&self, minute: u32) -> Result<Reading, Refusal>
         ensures { result ≡ point_answer (known S.means self.now) minute }
     {
-        Ok(asking(self.point_reading(minute), Asked::Minute(minute))?)
+        let reading = self
+            .point_reading(minute)
+            .map_err(|fault| (fault, Asked::Minute(minute)))?;
+        Ok(reading)
     }
 
     // The sum of the minutes from `from` to `to - 1`.
     pub fn sum(&self, from: u32, to: u32) -> Result<Reading, Refusal>
         ensures { result ≡ sum_answer (known S.means self.now) from to }
     {
-        Ok(asking(self.sum_reading(from, to), Asked::Minutes(from, to))?)
+        let reading = self
+            .sum_reading(from, to)
+            .map_err(|fault| (fault, Asked::Minutes(from, to)))?;
+        Ok(reading)
     }
 
     // The mean of the minutes from `from` to `to - 1`, rounded toward minus infinity.
     pub fn mean(&self, from: u32, to: u32) -> Result<Reading, Refusal>
         ensures { result ≡ mean_answer (known S.means self.now) from to }
     {
-        Ok(asking(self.mean_reading(from, to), Asked::Minutes(from, to))?)
+        let reading = self
+            .mean_reading(from, to)
+            .map_err(|fault| (fault, Asked::Minutes(from, to)))?;
+        Ok(reading)
     }
 
     fn point_reading(&self, minute: u32) -> Result<Reading, Fault>
         ensures { result ≡ point_reading (known S.means self.now) minute }
     {
-        let size = self.size();
-        if minute >= 1 << size {
+        let tree = self.tree();
+        if minute >= 1 << tree.size {
             return Err(Fault::Domain);
         }
-        read_piece(&self.store, size, 0, minute)
+        tree.piece(0, minute)
     }
 
     fn sum_reading(&self, from: u32, to: u32) -> Result<Reading, Fault>
@@ -49,11 +56,11 @@ impl<S: Store> Warehouse<S> {
         if from > to {
             return Err(Fault::Range);
         }
-        let size = self.size();
-        if to > 1 << size {
+        let tree = self.tree();
+        if to > 1 << tree.size {
             return Err(Fault::Domain);
         }
-        read_range(&self.store, size, from, to)
+        tree.range(from, to)
     }
 
     fn mean_reading(&self, from: u32, to: u32) -> Result<Reading, Fault>
@@ -65,7 +72,7 @@ impl<S: Store> Warehouse<S> {
         let sum = self.sum_reading(from, to)?;
         Ok(Reading {
             value: sum.value.div_euclid(i64::from(to - from)),
-            cells: sum.cells,
+            ..sum
         })
     }
 }

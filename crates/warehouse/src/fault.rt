@@ -1,7 +1,7 @@
 // Why a warehouse refuses a call, with what was asked for.
 use store::fault::CellFault;
 
-#[derive(Clone, Copy)]
+#[derive(Clone, Copy, PartialEq, Eq, Debug)]
 pub enum Fault {
     // the store refuses the cell
     Cell(CellFault),
@@ -37,7 +37,7 @@ pub enum Fault {
     Fine(u32),
 }
 
-#[derive(Clone, Copy)]
+#[derive(Clone, Copy, PartialEq, Eq, Debug)]
 pub enum Asked {
     // level, index
     Interval(u8, u32),
@@ -47,7 +47,7 @@ pub enum Asked {
     Size(u8),
 }
 
-#[derive(Clone, Copy)]
+#[derive(Clone, Copy, PartialEq, Eq, Debug)]
 pub struct Refusal {
     pub fault: Fault,
     pub asked: Asked,

@@ -1,11 +1,10 @@
 // Surveying a store, taking it over, settling and closing.
-ghost use Rattle.std.specs.Prelude.{◌≡◌, ℕ, ◌<◌, ◌≤◌, pos, Some, None, ◌≢◌};
+ghost use Rattle.std.specs.Prelude.{◌≡◌, ℕ, ◌<◌, ◌≤◌, pos, MatchOption, ◌≢◌};
 ghost use Rattle.haar.specs.Tiles.{cell_count};
 ghost use Rattle.store.specs.Meaning.{Settles};
 ghost use Rattle.warehouse.specs.Founding.{Empty, Surveyed, Surveys, cut};
 
 use crate::fault::{Asked, Fault, Refusal};
-use crate::numbers::asking;
 use crate::record::Warehouse;
 use haar::cells::cell_count;
 use store::interface::Store;
@@ -13,16 +12,9 @@ use store::interface::Store;
 // The lowest of the cells below `count` that is not zero.
 fn lowest_nonzero<S: Store>(store: &S, count: u32) -> Option<u32>
     requires { count ≡ cell_count (S.means store.now).bands }
-    ensures { elim result [ Some c ↦ (c < count) × ((S.means store.now).cells c ≢ pos 0) × Empty (S.means store.now) c | None ↦ Empty (S.means store.now) count ] }
+    ensures { MatchOption result (Empty (S.means store.now) count) (λ c. (c < count) × ((S.means store.now).cells c ≢ pos 0) × Empty (S.means store.now) c) }
 {
-    for cell in 0..count {
-        if let Ok(number) = store.read(cell) {
-            if number != 0 {
-                return Some(cell);
-            }
-        }
-    }
-    None
+    (0..count).find(|cell| store.read(*cell).is_ok_and(|number| number != 0))
 }
 
 fn surveyed<S: Store>(store: &S, size: u8) -> Result<(), Fault>
@@ -46,7 +38,7 @@ fn surveyed<S: Store>(store: &S, size: u8) -> Result<(), Fault>
 pub fn survey<S: Store>(store: &S, size: u8) -> Result<(), Refusal>
     ensures { Surveys (S.means store.now) size result }
 {
-    asking(surveyed(store, size), Asked::Size(size))?;
+    surveyed(store, size).map_err(|fault| (fault, Asked::Size(size)))?;
     Ok(())
 }
 
@@ -56,10 +48,9 @@ impl<S: Store> Warehouse<S> {
         ensures store { result.store ≡ store }
         ensures size { result.asked ≡ cut (S.means store) size }
     {
-        let most = 4 * store.bands();
         Warehouse {
+            asked: size.min(4 * store.bands()),
             store,
-            asked: size.min(most),
         }
     }
 
@@ -71,14 +62,10 @@ impl<S: Store> Warehouse<S> {
     }
 
     // The store, settled.
-    pub fn close(self) -> S
+    pub fn close(mut self) -> S
         ensures { Settles (S.means self.store) (S.means result) }
     {
-        let Warehouse {
-            mut store,
-            asked: _,
-        } = self;
-        store.settle();
-        store
+        self.settle();
+        self.store
     }
 }

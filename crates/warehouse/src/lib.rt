@@ -10,5 +10,7 @@ mod range;
 mod read;
 pub mod reading;
 pub mod record;
+mod tree;
 pub mod trend;
 pub mod warehouse;
+pub mod words;

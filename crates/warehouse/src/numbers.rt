@@ -1,6 +1,6 @@
 // The numbers of refusals, and how a refusal passes up.
 ghost use Rattle.std.specs.Prelude.{◌≡◌};
-ghost use Rattle.warehouse.specs.Faults.{fault_number, asking};
+ghost use Rattle.warehouse.specs.Faults.{fault_number};
 ghost use Rattle.warehouse.specs.declared.fault.Fault.TheVariants.{Cell};
 
 use crate::fault::{Asked, Fault, Refusal};
@@ -42,20 +42,7 @@ impl From<CellFault> for Fault {
 impl From<(Fault, Asked)> for Refusal {
     ghost from_gives = { λ e r. r ≡ record { fault = e.0; asked = e.1 } };
 
-    fn from(pair: (Fault, Asked)) -> Refusal {
-        Refusal {
-            fault: pair.0,
-            asked: pair.1,
-        }
-    }
-}
-
-// An answer, or its fault with what was asked for.
-pub fn asking<T>(answer: Result<T, Fault>, asked: Asked) -> Result<T, (Fault, Asked)>
-    ensures { result ≡ asking answer asked }
-{
-    match answer {
-        Ok(value) => Ok(value),
-        Err(fault) => Err((fault, asked)),
+    fn from((fault, asked): (Fault, Asked)) -> Refusal {
+        Refusal { fault, asked }
     }
 }

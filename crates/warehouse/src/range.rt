@@ -1,11 +1,11 @@
 // A range of minutes, read back interval by interval.
-ghost use Rattle.std.specs.Prelude.{◌≡◌, ◌+◌, ◌*◌, ◌^◌, ◌<◌, ◌≤◌, ◌+ℤ◌, unsigned_abs};
+ghost use Rattle.std.specs.Prelude.{◌≡◌, ◌+◌, ◌^◌, ◌<◌, ◌≤◌, ◌+ℤ◌, unsigned_abs};
 ghost use Rattle.warehouse.specs.Ask.{range_reading};
 ghost use Rattle.warehouse.specs.Read.{look, starts, longest};
 
 use crate::fault::Fault;
-use crate::read::read_piece;
 use crate::reading::Reading;
+use crate::tree::Tree;
 use store::interface::Store;
 
 // An interval of this level starts at `from` and ends by `to`.
@@ -18,50 +18,38 @@ fn starts(level: u8, from: u32, to: u32) -> bool
 }
 
 // The level, at most `size`, of the longest interval that starts at `from` and ends by `to`.
+#[tactic(auto, using(crate::proofs::Pieces::longest_here, crate::proofs::Pieces::longest_less, crate::proofs::Pieces::longest_zero))]
 fn longest(size: u8, from: u32, to: u32) -> u8
     requires { (size ≤ 20) × (from < 2 ^ 20) }
     ensures is { result ≡ longest size from to }
     ensures low { result ≤ 20 }
     ensures end { from < to → from + 2 ^ result ≤ to }
 {
-    let mut level = size;
-    while level > 0 && !starts(level, from, to) {
-        level -= 1;
+    for level in (1..=size).rev() {
+        if starts(level, from, to) {
+            return level;
+        }
     }
-    level
+    0
 }
 
-// Two readings as one.
-fn joined(first: Reading, second: Reading) -> Reading
-    requires { (unsigned_abs first.value ≤ 2 ^ 62) × ((unsigned_abs second.value ≤ 2 ^ 56) × (first.cells + second.cells < 2 ^ 32)) }
-    ensures { result ≡ record { value = first.value +ℤ second.value; cells = first.cells + second.cells } }
-{
-    Reading {
-        value: first.value + second.value,
-        cells: first.cells + second.cells,
+impl<S: Store> Tree<'_, S> {
+    // The sum of the minutes from `from` to `to - 1`, each time by the longest interval that starts where the last one ended.
+    pub(crate) fn range(&self, from: u32, to: u32) -> Result<Reading, Fault>
+        requires order { from ≤ to }
+        requires inside { to ≤ 2 ^ self.now.size }
+        ensures { result ≡ range_reading (S.means self.now.store.now).bands self.now.size (look (S.means self.now.store.now)) from to }
+    {
+        let mut sum = Reading { value: 0, cells: 0 };
+        let mut at = from;
+        // the steps differ in length, so that no range has them
+        while at < to {
+            let level = longest(self.size, at, to);
+            let piece = self.piece(level, at >> level)?;
+            sum.value += piece.value;
+            sum.cells += piece.cells;
+            at += 1 << level;
+        }
+        Ok(sum)
     }
-}
-
-// The sum of the minutes from `from` to `to - 1`, each time by the longest interval that starts where the last one ended.
-pub(crate) fn read_range<S: Store>(
-    store: &S,
-    size: u8,
-    from: u32,
-    to: u32,
-) -> Result<Reading, Fault>
-    requires order { from ≤ to }
-    requires inside { to ≤ 2 ^ size }
-    requires fits { size ≤ 4 * (S.means store.now).bands }
-    requires most { size ≤ 20 }
-    ensures { result ≡ range_reading (S.means store.now).bands size (look (S.means store.now)) from to }
-{
-    let mut sum = Reading { value: 0, cells: 0 };
-    let mut at = from;
-    while at < to {
-        let level = longest(size, at, to);
-        let piece = read_piece(store, size, level, at >> level)?;
-        sum = joined(sum, piece);
-        at += 1 << level;
-    }
-    Ok(sum)
 }

@@ -1,5 +1,5 @@
 // What a question answers.
-#[derive(Clone, Copy)]
+#[derive(Clone, Copy, PartialEq, Eq, Debug)]
 pub struct Reading {
     // the value, the sum or the mean
     pub value: i64,

@@ -1,91 +1,49 @@
 // The trend of an interval: how its two halves compare.
-ghost use Rattle.std.specs.Prelude.{◌≡◌, ℕ, ◌-◌, ◌^◌, ◌<◌, ◌≤◌, unsigned_abs};
-ghost use Rattle.haar.specs.Places.{InTree};
+ghost use Rattle.std.specs.Prelude.{◌≡◌, ◌^◌, ◌≤◌, unsigned_abs};
 ghost use Rattle.haar.specs.Trend.{amount, trend_of};
-ghost use Rattle.warehouse.specs.Grading.{inside, graded, graded_in, graded_at, trend_reading, trend_answer};
+ghost use Rattle.warehouse.specs.Grading.{trend_reading, trend_answer};
 ghost use Rattle.warehouse.specs.View.{known};
 
 use crate::fault::{Asked, Fault, Refusal};
-use crate::numbers::asking;
 use crate::record::Warehouse;
 use haar::cells::difference_cell;
 use haar::trend::Trend;
+use std::cmp::Ordering;
 use store::interface::Store;
 
 // The largest size of a difference that a float halves exactly.
 const EXACT: u64 = 1 << 53;
 
-// A size as a float, halved once for each level past the first.
+// A size as a float, halved once for each level past the first. (A float has no `From` for 64 bits.)
 fn halved(size: u64, level: u8) -> f64
     requires { (size ≤ 2 ^ 53) × ((1 ≤ level) × (level ≤ 20)) }
     ensures { result ≡ amount level size }
 {
-    let mut x = size as f64;
-    for _i in 1..level {
-        x = x / 2.0;
-    }
-    x
+    (1..level).fold(size as f64, |x, _| x / 2.0)
 }
 
 fn trend_of(difference: i64, level: u8) -> Trend
     requires { (unsigned_abs difference ≤ 2 ^ 53) × ((1 ≤ level) × (level ≤ 20)) }
     ensures { result ≡ trend_of level difference }
 {
-    if difference > 0 {
-        Trend::Falling(halved(difference.unsigned_abs(), level))
-    } else if difference < 0 {
-        Trend::Rising(halved(difference.unsigned_abs(), level))
-    } else {
-        Trend::Level
+    let amount = halved(difference.unsigned_abs(), level);
+    match difference.cmp(&0) {
+        Ordering::Greater => Trend::Falling(amount),
+        Ordering::Less => Trend::Rising(amount),
+        Ordering::Equal => Trend::Level,
     }
 }
 
-fn grade(cell: u32, difference: i64, level: u8) -> Result<Trend, Fault>
-    requires { (1 ≤ level) × (level ≤ 20) }
-    ensures { result ≡ graded level cell difference }
-{
-    if difference.unsigned_abs() > EXACT {
-        return Err(Fault::Fine(cell));
-    }
-    Ok(trend_of(difference, level))
-}
-
-// The trend of the difference in a cell.
-fn grade_cell<S: Store>(store: &S, cell: u32, level: u8) -> Result<Trend, Fault>
-    requires { (1 ≤ level) × (level ≤ 20) }
-    ensures { result ≡ graded_in (S.means store.now) level cell }
-{
-    let difference = store.read(cell)?;
-    grade(cell, difference, level)
-}
-
-// The trend of D(level, index).
-fn trend_at<S: Store>(store: &S, level: u8, index: u32) -> Result<Trend, Fault>
-    requires tree { InTree (S.means store.now).bands level index }
-    requires some { 1 ≤ level }
-    requires most { level ≤ 20 }
-    ensures { result ≡ graded_at (S.means store.now) level index }
-{
-    let cell = difference_cell(store.bands(), level, index).unwrap();
-    grade_cell(store, cell, level)
-}
-
-fn lies(size: u8, level: u8, index: u32) -> bool
-    requires { size ≤ 20 }
-    ensures { result ≡ inside size level index }
-{
-    level <= size && index < 1 << (size - level)
-}
-
+#[tactic(auto, unfolding(crate::specs::Grading::trend_answer))]
 impl<S: Store> Warehouse<S> {
     // How the halves of the interval (level, index) compare.
     pub fn trend(&self, level: u8, index: u32) -> Result<Trend, Refusal>
         ensures { result ≡ trend_answer (known S.means self.now) level index }
     {
-        Ok(asking(
-            self.trend_reading(level, index),
-            Asked::Interval(level, index),
-        )?)
+        let trend = self
+            .trend_reading(level, index)
+            .map_err(|fault| (fault, Asked::Interval(level, index)))?;
+        Ok(trend)
     }
 
     fn trend_reading(&self, level: u8, index: u32) -> Result<Trend, Fault>
@@ -94,9 +52,14 @@ impl<S: Store> Warehouse<S> {
         if level == 0 || level > 20 {
             return Err(Fault::Interval);
         }
-        if !lies(self.size(), level, index) {
+        if !self.has(level, index) {
             return Err(Fault::Domain);
         }
-        trend_at(&self.store, level, index)
+        let cell = difference_cell(self.store.bands(), level, index).unwrap();
+        let difference = self.store.read(cell)?;
+        if difference.unsigned_abs() > EXACT {
+            return Err(Fault::Fine(cell));
+        }
+        Ok(trend_of(difference, level))
     }
 }

@@ -1,6 +1,8 @@
-// The size of a warehouse.
-ghost use Rattle.std.specs.Prelude.{◌≡◌, ℕ, ◌≤◌};
+// The size of a warehouse, and what lies inside it.
+ghost use Rattle.std.specs.Prelude.{◌≡◌, ℕ, ◌-◌, ◌^◌, ◌<◌, ◌≤◌, ◌↔◌, IsTrue};
+ghost use Rattle.haar.specs.Places.{InTree};
 ghost use Rattle.store.specs.Meaning.{Lawful};
+ghost use Rattle.warehouse.specs.Grading.{inside};
 ghost use Rattle.warehouse.specs.View.{known};
 
 use crate::record::Warehouse;
@@ -14,5 +16,15 @@ impl<S: Store> Warehouse<S> {
         ensures lawful { Lawful (S.means self.now.store) }
     {
         self.asked.min(4 * self.store.bands())
+    }
+
+    // Whether the interval (level, index) lies inside the size.
+    pub fn has(&self, level: u8, index: u32) -> bool
+        ensures is { result ≡ inside (known S.means self.now).size level index }
+        ensures lies { IsTrue result ↔ (level ≤ (known S.means self.now).size) × (index < 2 ^ ((known S.means self.now).size - level)) }
+        ensures tree { IsTrue result → InTree (S.means self.now.store).bands level index }
+    {
+        let size = self.size();
+        level <= size && index < 1 << (size - level)
     }
 }

@@ -1,5 +1,5 @@
 -- A command that was encoded is decoded.
-use Rattle.std.proofs.Common.{◌≡◌, ℕ, ◌+◌, ◌*◌, ◌/◌, ◌%◌, ◌^◌, ◌<◌, cond, eqb, ltb, List, ◌++◌, length, ℤ, pos, negsuc, Ok, Err, Result, refl, ap, ◌∙◌, arith}
+use Rattle.std.proofs.Common.{◌≡◌, ℕ, ◌+◌, ◌*◌, ◌/◌, ◌%◌, ◌^◌, ◌<◌, cond, eqb, ltb, List, ◌++◌, length, ℤ, pos, negsuc, Err, Result, ap, ◌∙◌, arith}
 use Rattle.std.proofs.lemmas.Bool.Decides.{nat_tests}
 use Rattle.wire.specs.Decode.{big_endian, twos_complement}
 use Rattle.wire.specs.Encode.{four_bytes, bits_of, encode, InRangeSigned, DecodesEncoded}
@@ -8,8 +8,8 @@ use Rattle.wire.specs.declared.command.DecodeFault.{DecodeFault}
 use Rattle.wire.specs.declared.command.DecodeFault.TheVariants.{Cut}
 
 -- bytes that are neither empty nor cut at w operand bytes
-whole : {X : Type 0} (bs : List ℕ) (w : ℕ) {x y : Result X DecodeFault} → w < length bs → x ≡ y → cond (eqb (length bs) 0) (Err Cut) (cond (ltb (length bs) (1 + w)) (Err Cut) x) ≡ y
-whole bs w {x = x} h e = let k : cond (eqb (length bs) 0) (Err Cut) (cond (ltb (length bs) (1 + w)) (Err Cut) x) ≡ x = grind (arith, nat_tests) in k ∙ e
+whole : {X : Type 0} (bs : List ℕ) (w : ℕ) {x : Result X DecodeFault} → w < length bs → cond (eqb (length bs) 0) (Err Cut) (cond (ltb (length bs) (1 + w)) (Err Cut) x) ≡ x
+whole bs w h = grind (arith, nat_tests)
 
 number_back : (n : ℕ) → n < 2 ^ 32 → n / 2 ^ 24 * 2 ^ 24 + n / 2 ^ 16 % 2 ^ 8 * 2 ^ 16 + n / 2 ^ 8 % 2 ^ 8 * 2 ^ 8 + n % 2 ^ 8 ≡ n
 number_back n h = omega arith
@@ -25,25 +25,16 @@ bits_back (negsuc n) h = grind (arith, nat_tests)
 value_back : (z : ℤ) → InRangeSigned z → twos_complement (big_endian (four_bytes (bits_of z)) 0) ≡ z
 value_back z h = ap twos_complement (number_back (bits_of z) (bits_fit z h)) ∙ bits_back z h
 
-two : {A B C : Type 0} (f : A → B → C) {a a' : A} {b b' : B} → a ≡ a' → b ≡ b' → f a b ≡ f a' b'
-two f p q = cc
-
 pub decodes_encoded : DecodesEncoded
-decodes_encoded Grow rest r = whole (encode Grow ++ rest) 0 (omega arith) refl
-decodes_encoded (Begin level index) rest r =
-    whole (encode (Begin level index) ++ rest) 5 (omega arith) (ap (λ (n : ℕ). Ok (Begin level n, rest)) (number_back index r.1))
-decodes_encoded (Value value) rest r =
-    whole (encode (Value value) ++ rest) 4 (omega arith) (ap (λ (z : ℤ). Ok (Value z, rest)) (value_back value r))
-decodes_encoded Finish rest r = whole (encode Finish ++ rest) 0 (omega arith) refl
-decodes_encoded GiveUp rest r = whole (encode GiveUp ++ rest) 0 (omega arith) refl
+decodes_encoded Grow rest r = whole (encode Grow ++ rest) 0 (omega arith)
+decodes_encoded (Begin level index) rest r = whole (encode (Begin level index) ++ rest) 5 (omega arith) ∙ cc (number_back index r.1)
+decodes_encoded (Value value) rest r = whole (encode (Value value) ++ rest) 4 (omega arith) ∙ cc (value_back value r)
+decodes_encoded Finish rest r = whole (encode Finish ++ rest) 0 (omega arith)
+decodes_encoded GiveUp rest r = whole (encode GiveUp ++ rest) 0 (omega arith)
 decodes_encoded (Add minute value) rest r =
-    whole (encode (Add minute value) ++ rest) 8 (omega arith)
-    (two (λ (n : ℕ) (z : ℤ). Ok (Add n z, rest)) (number_back minute r.0) (value_back value r.1))
-decodes_encoded (Point minute) rest r =
-    whole (encode (Point minute) ++ rest) 4 (omega arith) (ap (λ (n : ℕ). Ok (Point n, rest)) (number_back minute r))
+    whole (encode (Add minute value) ++ rest) 8 (omega arith) ∙ cc (number_back minute r.0, value_back value r.1)
+decodes_encoded (Point minute) rest r = whole (encode (Point minute) ++ rest) 4 (omega arith) ∙ cc (number_back minute r)
 decodes_encoded (Sum from to) rest r =
-    whole (encode (Sum from to) ++ rest) 8 (omega arith)
-    (two (λ (m n : ℕ). Ok (Sum m n, rest)) (number_back from r.0) (number_back to r.1))
+    whole (encode (Sum from to) ++ rest) 8 (omega arith) ∙ cc (number_back from r.0, number_back to r.1)
 decodes_encoded (Mean from to) rest r =
-    whole (encode (Mean from to) ++ rest) 8 (omega arith)
-    (two (λ (m n : ℕ). Ok (Mean m n, rest)) (number_back from r.0) (number_back to r.1))
+    whole (encode (Mean from to) ++ rest) 8 (omega arith) ∙ cc (number_back from r.0, number_back to r.1)

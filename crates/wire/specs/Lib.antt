@@ -1,4 +1,3 @@
 pub mod Decode
 pub mod Line
-pub mod Text
 pub mod Encode

@@ -2,7 +2,9 @@
 ghost use Rattle.std.specs.Prelude.{◌≡◌};
 ghost use Rattle.wire.specs.Decode.{decode_fault_number};
 
-#[derive(Clone, Copy)]
+use thiserror::Error;
+
+#[derive(Clone, Copy, PartialEq, Eq, Debug)]
 pub enum Command {
     Grow,
     Begin { level: u8, index: u32 },
@@ -15,21 +17,18 @@ pub enum Command {
     Mean { from: u32, to: u32 },
 }
 
-#[derive(Clone, Copy)]
+#[derive(Clone, Copy, PartialEq, Eq, Debug, Error)]
 pub enum DecodeFault {
-    // The first byte is no command's letter.
-    Command,
-    // The bytes end before the command does.
-    Cut,
+    #[error("the first byte is no command's letter")]
+    Command = 11,
+    #[error("the bytes end before the command does")]
+    Cut = 12,
 }
 
 impl DecodeFault {
     pub fn number(self) -> u8
         ensures { result ≡ decode_fault_number self }
     {
-        match self {
-            DecodeFault::Command => 11,
-            DecodeFault::Cut => 12,
-        }
+        self as u8
     }
 }

@@ -2,14 +2,12 @@
 ghost use Rattle.wire.specs.Encode.{DecodesEncoded};
 ghost use Rattle.wire.specs.Line.{LinesApart};
 
-pub fn decoded_stands() -> u8
+#[tactic(auto, using(crate::proofs::Encoded::decodes_encoded))]
+pub fn decoded_stands()
     ensures { DecodesEncoded }
-{
-    0
-}
+{}
 
-pub fn lines_stand() -> u8
+#[tactic(auto, using(crate::proofs::Apart::lines_apart))]
+pub fn lines_stand()
     ensures { LinesApart }
-{
-    0
-}
+{}

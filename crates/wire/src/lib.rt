@@ -7,5 +7,4 @@ pub mod laws;
 pub mod line;
 #[cfg(test)]
 mod tests;
-mod text;
 pub mod write_line;

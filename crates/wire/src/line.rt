@@ -2,7 +2,9 @@
 ghost use Rattle.std.specs.Prelude.{◌≡◌};
 ghost use Rattle.wire.specs.Line.{line_fault_number};
 
-#[derive(Clone, Copy)]
+use thiserror::Error;
+
+#[derive(Clone, Copy, PartialEq, Eq, Debug)]
 pub enum Line {
     Grown { size: u8 },
     Begun,
@@ -15,18 +17,16 @@ pub enum Line {
     Refused { number: u8, offset: u64 },
 }
 
-#[derive(Clone, Copy)]
+#[derive(Clone, Copy, PartialEq, Eq, Debug, Error)]
 pub enum LineFault {
-    // The buffer is shorter than the line.
-    Buffer,
+    #[error("the buffer is shorter than the line")]
+    Buffer = 15,
 }
 
 impl LineFault {
     pub fn number(self) -> u8
         ensures { result ≡ line_fault_number self }
     {
-        match self {
-            LineFault::Buffer => 15,
-        }
+        self as u8
     }
 }

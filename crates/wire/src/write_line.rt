@@ -1,10 +1,14 @@
 // A line is written into the caller's buffer.
-ghost use Rattle.std.specs.Prelude.{◌≡◌, ◌≤◌, ◌∷◌, ◌++◌, length};
-ghost use Rattle.wire.specs.Line.{bare_line, count_line, answer_line, line_bytes, field, newline, WritesLine};
-ghost use Rattle.wire.specs.Text.{Holds};
+ghost use Rattle.std.specs.Prelude.{◌≡◌, ◌+◌, ◌<◌, ◌≤◌, ◌∷◌, ◌++◌, length};
+ghost use Rattle.arrayvec.specs.ArrayString.{array_string_len};
+ghost use Rattle.wire.specs.Line.{line_bytes, newline, WritesLine};
 
 use crate::line::{Line, LineFault};
-use crate::text::Text;
+use arrayvec::ArrayString;
+use itoa::{Buffer, Integer};
+
+// The longest line has 34 bytes.
+type Text = ArrayString<48>;
 
 // The buffer starts with the line's bytes if they fit, and else is left as it was.
 pub fn write_line(line: Line, buffer: &mut [u8]) -> Result<usize, LineFault>
@@ -12,62 +16,71 @@ pub fn write_line(line: Line, buffer: &mut [u8]) -> Result<usize, LineFault>
     ensures short { length (line_bytes line) ≤ 48 }
 {
     let text = line_text(line);
-    if buffer.len() < text.len {
+    if buffer.len() < text.len() {
         return Err(LineFault::Buffer);
     }
-    buffer[0..text.len].copy_from_slice(&text.bytes[0..text.len]);
-    Ok(text.len)
+    buffer[..text.len()].copy_from_slice(text.as_str().as_bytes());
+    Ok(text.len())
 }
 
+// Not by `write!`: its contract leaves an `Err` open, and a line that fits is never refused.
 fn line_text(line: Line) -> Text
-    ensures { Holds result (line_bytes line) }
+    ensures { result.bytes ≡ line_bytes line }
 {
     match line {
-        Line::Grown { size } => count(b'G', size as u64),
-        Line::Begun => bare(b'L'),
-        Line::Finished { cells } => count(b'F', cells as u64),
-        Line::GivenUp { values } => count(b'A', values as u64),
-        Line::Added { cells } => count(b'P', cells as u64),
-        Line::Point { value, cells } => answer(b'Q', value, cells),
-        Line::Sum { sum, cells } => answer(b'S', sum, cells),
-        Line::Mean { mean, cells } => answer(b'M', mean, cells),
-        Line::Refused { number, offset } => refusal(number, offset),
+        Line::Grown { size } => count('G', size),
+        Line::Begun => bare('L'),
+        Line::Finished { cells } => count('F', cells),
+        Line::GivenUp { values } => count('A', values),
+        Line::Added { cells } => count('P', cells),
+        Line::Point { value, cells } => pair('Q', value, cells),
+        Line::Sum { sum, cells } => pair('S', sum, cells),
+        Line::Mean { mean, cells } => pair('M', mean, cells),
+        Line::Refused { number, offset } => pair('E', number, offset),
     }
 }
 
-fn bare(letter: u8) -> Text
-    ensures { Holds result (bare_line letter) }
+fn bare(letter: char) -> Text
+    requires { letter < 128 }
+    ensures { result.bytes ≡ letter ∷ newline }
 {
-    let mut text = Text::start(letter);
-    text.push(b'\n');
+    let mut text = Text::new();
+    text.push(letter);
+    text.push('\n');
     text
 }
 
-fn count(letter: u8, n: u64) -> Text
-    ensures { Holds result (count_line letter n) }
+fn count<I: Integer>(letter: char, n: I) -> Text
+    requires letter { letter < 128 }
+    requires room { I.MAX_STR_LEN ≤ 45 }
+    ensures { result.bytes ≡ letter ∷ 32 ∷ I.text n ++ newline }
 {
-    let mut text = Text::start(letter);
-    text.push_field(n);
-    text.push(b'\n');
+    let mut text = Text::new();
+    text.push(letter);
+    push_field(&mut text, n);
+    text.push('\n');
     text
 }
 
-fn answer(letter: u8, z: i64, n: u32) -> Text
-    ensures { Holds result (answer_line letter z n) }
+fn pair<I: Integer, J: Integer>(letter: char, first: I, second: J) -> Text
+    requires letter { letter < 128 }
+    requires room { I.MAX_STR_LEN + J.MAX_STR_LEN ≤ 44 }
+    ensures { result.bytes ≡ letter ∷ 32 ∷ I.text first ++ 32 ∷ J.text second ++ newline }
 {
-    let mut text = Text::start(letter);
-    text.push_signed_field(z);
-    text.push_field(n as u64);
-    text.push(b'\n');
+    let mut text = Text::new();
+    text.push(letter);
+    push_field(&mut text, first);
+    push_field(&mut text, second);
+    text.push('\n');
     text
 }
 
-fn refusal(number: u8, offset: u64) -> Text
-    ensures { Holds result (69 ∷ field number ++ field offset ++ newline) }
+// A space, then the number.
+fn push_field<I: Integer>(text: &mut Text, n: I)
+    requires { array_string_len text.old + I.MAX_STR_LEN < 48 }
+    ensures bytes { text.new.bytes ≡ text.old.bytes ++ 32 ∷ I.text n }
+    ensures room { array_string_len text.new ≤ array_string_len text.old + I.MAX_STR_LEN + 1 }
 {
-    let mut text = Text::start(b'E');
-    text.push_field(number as u64);
-    text.push_field(offset);
-    text.push(b'\n');
-    text
+    text.push(' ');
+    text.push_str(Buffer::new().format(n));
 }

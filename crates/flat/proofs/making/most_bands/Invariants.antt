@@ -4,6 +4,3 @@ use Rattle.flat.proofs.making.most_bands.Given as goal
 
 abbrev pub invariant-loop-bands : goal.invariant-loop-bands
 invariant-loop-bands l = (l.bands ≤ 5) × ((d : ℕ) → l.bands < d → d ≤ 5 → l.numbers < cell_count d)
-
-abbrev pub decreases-loop-bands : goal.decreases-loop-bands
-decreases-loop-bands l = l.bands

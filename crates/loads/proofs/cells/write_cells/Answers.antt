@@ -1,45 +1,64 @@
-use Rattle.std.proofs.Common.{refl, arith, w64, SFits, rules}
+use Rattle.std.proofs.Common.{◌≡◌, ◌+ℤ◌, ◌<◌, sym, ◌∙◌, subst, w64, SFits, to_z, of_z, rules}
 use Rattle.haar.proofs.Load.{some_load}
+use Rattle.haar.specs.Tiles.{cell_count}
+use Rattle.haar.specs.Haar.{value}
+use Rattle.loads.specs.Share.{told}
+use Rattle.loads.specs.Reach.{Found}
 use Rattle.loads.proofs.Splits.{minutes_chunk}
-use Rattle.loads.proofs.Reading.{read_done, write_done}
-use Rattle.loads.proofs.Seen.{count_most}
 use Rattle.loads.proofs.Partly.{partly_start, cell_in, cell_open, sum_fits, new_is, partly_step, partly_end}
 use Rattle.loads.proofs.cells.write_cells.Goals as goal
+use Rattle.loads.proofs.cells.write_cells.Goals.{In-Some, After-share-share}
 
 pub loop-touch-init : goal.loop-touch-init
-loop-touch-init g c = partly_start _ _ _ _ _ _ c.requires.bands
+loop-touch-init g c = rw c.into_iter-touch-iterator.ensures.into_iter_gives (c.of-touch-items.ensures.0, rw c.of-touch-items.ensures.1 (partly_start _ _ _ _ _ _ c.requires.bands))
 
-pub returns-in_err-number : goal.returns-in_err-number
-returns-in_err-number g c =
-    let l = cell_in _ _ _ _ _ c.args.reach.some c.args.reach.held _ _ _ c.loop-touch.invariant _ _ c.in-Some.ensures in
-    absurd (read_done _ _ _ _ c.loop-touch.invariant.bands l c.in_err-number.ensures)
+-- the next touched cell
+found : (g : _) (c : In-Some g) → let r = c.args.chunk.now.reach in Found r.bands r.size r.level r.index c.loop-touch.touch-iterator.from c.in-Some.touch.coefficient c.in-Some.touch.cell
+found g c = rw c.loop-touch.invariant.0 at c.in-Some.ensures.steps.1.0
+
+inside : (g : _) (c : In-Some g) → c.in-Some.touch.cell < cell_count (g.S.Store.means c.loop-touch.store).bands
+inside g c =
+    let r = c.args.chunk.now.reach in
+    subst (λ b. c.in-Some.touch.cell < cell_count b) (sym c.loop-touch.invariant.1.bands) (cell_in _ _ _ _ _ r.some r.held _ _ _ c.loop-touch.invariant.1 _ _ (found g c))
+
+pub number_in-number-requires : goal.number_in-number-requires
+number_in-number-requires g c = inside g c
 
 pub overflow_add-number : goal.overflow_add-number
 overflow_add-number g c =
-    let f : SFits w64 c.in_ok-number.number = search rules in
+    let r = c.args.chunk.now.reach in
+    let f : SFits w64 c.number_in-number.result = search rules in
     let h : SFits w64 c.share-share.result = search rules in
-    sum_fits _ _ _ _ _ c.args.reach.some c.args.reach.held _ _ _ c.loop-touch.invariant _ _ c.in-Some.ensures _ _ f h c.in_ok-number.ensures c.share-share.ensures c.requires.small
+    sum_fits _ _ _ _ _ r.some r.held _ _ _ c.loop-touch.invariant.1 _ _ (found g ((goal.at.overflow_add-number g c).In-Some)) _ _ f h c.number_in-number.ensures c.share-share.ensures c.requires.small
 
-pub returns-in_err-write : goal.returns-in_err-write
-returns-in_err-write g c =
-    let f : SFits w64 c.in_ok-number.number = search rules in
+-- its new number, as the machine adds it up
+new : (g : _) (c : After-share-share g) → let r = c.args.chunk.now.reach in to_z w64 (of_z w64 (to_z w64 (of_z w64 c.number_in-number.result) +ℤ to_z w64 (of_z w64 c.share-share.result))) ≡ (g.S.Store.means c.args.store.now).cells c.in-Some.touch.cell +ℤ value r.size (told r.level r.index c.args.chunk.now.numbers.now) c.in-Some.touch.coefficient
+new g c =
+    let r = c.args.chunk.now.reach in
+    let f : SFits w64 c.number_in-number.result = search rules in
     let h : SFits w64 c.share-share.result = search rules in
-    let l = cell_in _ _ _ _ _ c.args.reach.some c.args.reach.held _ _ _ c.loop-touch.invariant _ _ c.in-Some.ensures in
-    let e = new_is _ _ _ _ _ c.args.reach.some c.args.reach.held _ _ _ c.loop-touch.invariant _ _ c.in-Some.ensures _ _ f h c.in_ok-number.ensures c.share-share.ensures c.requires.small in
-    let y = some_load _ _ _ _ _ _ c.args.reach.some c.args.reach.held c.args.reach.low (minutes_chunk _ _ _) in
-    absurd (write_done _ _ _ _ _ _ _ c.loop-touch.invariant.bands l (cell_open _ _ _ _ _ c.args.reach.some c.args.reach.held _ _ _ c.loop-touch.invariant _ _ c.in-Some.ensures y.0 y.1 (c.requires.room y.0 y.1) _ e) c.write.ensures c.in_err-write.was)
+    new_is _ _ _ _ _ r.some r.held _ _ _ c.loop-touch.invariant.1 _ _ (rw c.loop-touch.invariant.0 at c.in-Some.ensures.steps.1.0) _ _ f h c.number_in-number.ensures c.share-share.ensures c.requires.small
+
+pub put-requires : goal.put-requires
+put-requires g c =
+    let r = c.args.chunk.now.reach in
+    let s = goal.at.put-requires g c in
+    let y = some_load _ _ _ _ _ _ r.some r.held r.low (minutes_chunk _ _ _) in
+    record {
+      inside = inside g s.In-Some;
+      free = cell_open _ _ _ _ _ r.some r.held _ _ _ c.loop-touch.invariant.1 _ _ (found g s.In-Some) y.0 y.1 (c.requires.room y.0 y.1) _ (new g s.After-share-share);
+    }
 
 pub loop-touch-preserved : goal.loop-touch-preserved
 loop-touch-preserved g c =
-    let f : SFits w64 c.in_ok-number.number = search rules in
-    let h : SFits w64 c.share-share.result = search rules in
-    let e = new_is _ _ _ _ _ c.args.reach.some c.args.reach.held _ _ _ c.loop-touch.invariant _ _ c.in-Some.ensures _ _ f h c.in_ok-number.ensures c.share-share.ensures c.requires.small in
-    partly_step _ _ _ _ _ c.args.reach.some c.args.reach.held _ _ _ c.loop-touch.invariant _ _ c.in-Some.ensures _ _ e (c.write.ensures.put c.in_ok-write.was)
-
-pub overflow_add-from : goal.overflow_add-from
-overflow_add-from g c =
-    let l = cell_in _ _ _ _ _ c.args.reach.some c.args.reach.held _ _ _ c.loop-touch.invariant _ _ c.in-Some.ensures in
-    omega (arith, count_most c.args.reach.bands c.args.reach.few)
+    let r = c.args.chunk.now.reach in
+    let s = c.in-Some.ensures.steps in
+    let a = goal.at.loop-touch-preserved g c in (
+      s.0 ∙ c.loop-touch.invariant.0,
+      rw s.1.1 (partly_step _ _ _ _ _ r.some r.held _ _ _ c.loop-touch.invariant.1 _ _ (found g a.In-Some) _ _ (new g a.After-share-share) c.put.ensures),
+    )
 
 pub returns : goal.returns
-returns g c = record { done = refl; stored = partly_end _ _ _ _ _ c.args.reach.some c.args.reach.held _ _ _ c.loop-touch.invariant c.requires.bands c.in_default.ensures }
+returns g c =
+    let r = c.args.chunk.now.reach in
+    partly_end _ _ _ _ _ r.some r.held _ _ _ c.loop-touch.invariant.1 c.requires.bands (rw c.loop-touch.invariant.0 at c.in-None.ensures.steps.1)

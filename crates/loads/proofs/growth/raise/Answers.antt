@@ -1,13 +1,8 @@
-use Rattle.std.proofs.Common.{◌*◌, ◌<◌, sym, ap, ◌∙◌, subst, arith}
-use Rattle.haar.specs.Tiles.{cell_count}
-use Rattle.loads.specs.Growing.{total_cell}
-use Rattle.loads.proofs.Growing.{total_below}
+use Rattle.std.proofs.Common.{sym, ◌∙◌}
+use Rattle.loads.proofs.Growing.{total_below, cell_below}
 use Rattle.loads.proofs.growth.raise.Goals as goal
 
 pub number_in-total-requires : goal.number_in-total-requires
 number_in-total-requires g c =
-    let m = g.S.Store.means c.args.warehouse.now.store in
-    let b = c.bands-bands.ensures.is in
-    let e = c.growth_cells-cells.ensures.total ∙ ap (λ t. total_cell t c.size-size.result) b in
-    let lt : c.size-size.result < 4 * m.bands = omega (arith, b) in
-    subst (λ x. x < cell_count m.bands) (sym e) (total_below m.bands c.size-size.result lt)
+    let r = c.of-cells.result in
+    cell_below (g.S.Store.means c.args.warehouse.now.store) _ _ _ (sym (c.of-cells.ensures.0 ∙ c.bands-bands.ensures.is)) r.stands (total_below _ _ r.below)

@@ -1,13 +1,11 @@
-use Rattle.std.proofs.Common.{◌≡◌, ◌-◌, ◌/◌, ◌^◌, sym, subst, arith}
+use Rattle.std.proofs.Common.{◌≡◌, ◌-◌, ◌/◌, ◌^◌, ◌≤◌, rules, sym, subst, arith}
 use Rattle.loads.proofs.Meeting.{sum_meets, diff_meets}
 use Rattle.loads.proofs.slots.meets.Goals as goal
 
-pub returns-then-level-reach : goal.returns-then-level-reach
-returns-then-level-reach c =
-    record {
-      yes = λ e. rw c.in-Difference.is (diff_meets _ _ _ _ _ c.args.reach.low c.args.reach.inside c.if-level-reach.true.0 c.if-level-reach.true.1 (c.overlaps-then-level-reach.ensures.yes e));
-      none = λ e h. c.overlaps-then-level-reach.ensures.none e (rw c.in-Difference.is at h).touched;
-    }
+pub returns-then-contains-clause-yes : goal.returns-then-contains-clause-yes
+returns-then-contains-clause-yes c =
+    let b : (1 ≤ c.in-Difference.level) × (c.in-Difference.level ≤ c.args.reach.size) = search rules in
+    λ e. rw c.in-Difference.is (diff_meets _ _ _ _ _ c.args.reach.low c.args.reach.inside b.0 b.1 (c.overlaps-then-contains.ensures.yes e))
 
 pub returns-then-band-bands_in_use : goal.returns-then-band-bands_in_use
 returns-then-band-bands_in_use c =

@@ -6,16 +6,16 @@ use Rattle.loads.proofs.Meeting.{in_span, span_inside, cell_one}
 use Rattle.loads.proofs.touched.next_in_band.Goals as goal
 
 pub loop-cell-init : goal.loop-cell-init
-loop-cell-init c = λ s me b lo. omega (arith, in_span _ _ _ _ _ _ _ s c.args.reach.some c.cells_met-start.ensures me b)
+loop-cell-init c = λ s me b lo. omega (arith, in_span _ _ _ _ _ _ _ s c.args.reach.some c.cells_met-met.ensures me b)
 
 pub in_cell-coefficient-requires : goal.in_cell-coefficient-requires
 in_cell-coefficient-requires c =
-    let i = span_inside _ _ _ _ _ _ _ c.requires c.args.reach.held c.args.reach.low c.args.reach.inside c.cells_met-start.ensures in
+    let i = span_inside _ _ _ _ _ _ _ c.requires c.args.reach.held c.args.reach.low c.args.reach.inside c.cells_met-met.ensures in
     (c.requires, (omega arith, omega arith))
 
 pub loop-cell-preserved : goal.loop-cell-preserved
 loop-cell-preserved c = λ s me b lo.
-    let i = span_inside _ _ _ _ _ _ _ c.requires c.args.reach.held c.args.reach.low c.args.reach.inside c.cells_met-start.ensures in
+    let i = span_inside _ _ _ _ _ _ _ c.requires c.args.reach.held c.args.reach.low c.args.reach.inside c.cells_met-met.ensures in
     let le = c.loop-cell.invariant s me b lo in
     ⊎_elim
     (λ (e : cell_number c.args.reach.bands s ≡ c.loop-cell.cell).
@@ -25,6 +25,6 @@ loop-cell-preserved c = λ s me b lo.
 
 pub returns : goal.returns
 returns c = λ s me b.
-    let i = in_span _ _ _ _ _ _ _ s c.args.reach.some c.cells_met-start.ensures me b in
+    let i = in_span _ _ _ _ _ _ _ s c.args.reach.some c.cells_met-met.ensures me b in
     ⊎_elim (λ lt. lt) (λ le. let lo = c.loop-cell.invariant s me b le in absurd (omega arith))
     (cases_lt (cell_number c.args.reach.bands s) c.args.from)

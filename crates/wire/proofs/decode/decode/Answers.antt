@@ -10,3 +10,9 @@ returns-in-70 c = rw take_rest (search rules)
 
 pub returns-in-65 : goal.returns-in-65
 returns-in-65 c = rw take_rest (search rules)
+
+pub returns-in-86 : goal.returns-in-86
+returns-in-86 c = rw take_rest (search rules)
+
+pub returns-in-81 : goal.returns-in-81
+returns-in-81 c = rw take_rest (search rules)

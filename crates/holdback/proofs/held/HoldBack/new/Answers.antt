@@ -1,6 +1,5 @@
-use Rattle.std.proofs.Common.{refl}
 use Rattle.holdback.proofs.Counted.{alike_none}
 use Rattle.holdback.proofs.held.HoldBack.new.Goals as goal
 
-pub returns : goal.returns
-returns g c = record { over = refl; alike = alike_none _ _ }
+pub returns-clause-alike : goal.returns-clause-alike
+returns-clause-alike g c = rw c.new.ensures (alike_none _ _)

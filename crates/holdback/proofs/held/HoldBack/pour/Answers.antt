@@ -1,21 +1,31 @@
-use Rattle.std.proofs.Common.{List, refl, subst, arith, w64, SFits, rules}
+use Rattle.std.proofs.Common.{◌≡◌, ℕ, ◌<◌, List, ap, ◌∙◌, subst, arith, w64, SFits, rules}
+use Rattle.std.proofs.lemmas.List.{get_or-take}
 use Rattle.std.proofs.lemmas.Int.{to_z-of_z}
 use Rattle.store.specs.declared.entry.Entry.{Entry}
-use Rattle.store.specs.Meaning.{Writes}
+use Rattle.store.specs.Meaning.{Same, Writes}
 use Rattle.store.specs.Table.{entry_at}
-use Rattle.holdback.proofs.Tidy.{tidy}
+use Rattle.store.proofs.Tidy.{tidy}
+use Rattle.holdback.specs.Over.{held_over}
 use Rattle.holdback.proofs.Poured.{pour_none, pour_step}
 use Rattle.holdback.proofs.held.HoldBack.pour.Goals as goal
 
-pub loop-i-init : goal.loop-i-init
-loop-i-init g c = (refl, refl, pour_none c.args.self.now.held (g.S.Store.means c.args.self.now.below))
+pub loop-entry-init : goal.loop-entry-init
+loop-entry-init g c = pour_none c.args.self.now.held.entries (g.S.Store.means c.args.self.now.below)
 
-pub loop-i-preserved : goal.loop-i-preserved
-loop-i-preserved g c =
-    let f : SFits w64 (entry_at c.loop-i.self.held c.loop-i.i).value = search rules in
-    let W : List Entry → Type 0 = λ es. Writes (g.S.Store.means c.loop-i.self.below) (entry_at es c.loop-i.i).cell (entry_at es c.loop-i.i).value c.write.result
-    (g.S.Store.means c.write.new.self) in
-    let w = subst W c.loop-i.invariant.0 (simp to_z-of_z at c.write.ensures) in
-    let step = pour_step (g.S.Store.means c.args.self.now.below) c.args.self.now.held c.args.self.now.used (tidy c.args.self.now) c.requires
-    (g.S.Store.means c.loop-i.self.below) (g.S.Store.means c.write.new.self) c.loop-i.i c.write.result (omega arith) c.loop-i.invariant.2 w in
-    (c.loop-i.invariant.0, c.loop-i.invariant.1, step)
+pub loop-entry-preserved : goal.loop-entry-preserved
+loop-entry-preserved g c =
+    let t = c.args.self.now.held in
+    let i = c.loop-entry.entry-index in
+    let l : i < t.used = omega (arith, c.entries-entry-items.ensures.len) in
+    let W : Entry → Type 0 = λ e. Writes (g.S.Store.means c.loop-entry.below) e.cell e.value c.write.result (g.S.Store.means c.write.new.self) in
+    let same : entry_at c.entries-entry-items.result.now i ≡ entry_at t.entries i = ap (λ (es : List Entry). entry_at es i) c.entries-entry-items.ensures.all ∙ get_or-take t.used t.entries i _ l in
+    let f : SFits w64 (entry_at c.entries-entry-items.result.now i).value = search rules in
+    let w = subst W same (simp to_z-of_z at c.write.ensures) in
+    pour_step (g.S.Store.means c.args.self.now.below) t.entries t.used (tidy t) c.requires (g.S.Store.means c.loop-entry.below) (g.S.Store.means c.write.new.self) i c.write.result l
+    c.loop-entry.invariant w
+
+pub returns : goal.returns
+returns g c =
+    let t = c.args.self.now.held in
+    let P : ℕ → Type 0 = λ i. Same (held_over t.entries i (g.S.Store.means c.args.self.now.below)) (g.S.Store.means c.loop-entry.below) in
+    subst P (omega (arith, c.entries-entry-items.ensures.len)) c.loop-entry.invariant

@@ -1,5 +1,0 @@
-use Rattle.wire.proofs.Texts.{holds_adds}
-use Rattle.wire.proofs.write_line.count.Goals as goal
-
-pub returns : goal.returns
-returns c = holds_adds (holds_adds c.start-text.ensures c.push_field.ensures.adds) c.push.ensures

@@ -26,6 +26,7 @@ fn is_ready(left: usize, last: bool) -> bool
 }
 
 // The command at the front of the bytes, and its line: how many bytes it has, or none where the feed ends.
+// No struct holds warehouse, load and buffer: a load cannot be put back behind a `&mut`.
 fn obey_next<S: Store, O: Sink>(
     warehouse: &mut Warehouse<S>,
     loading: Option<OpenLoad>,
@@ -35,7 +36,7 @@ fn obey_next<S: Store, O: Sink>(
     sink: &mut O,
 ) -> (Option<OpenLoad>, Result<Option<usize>, O::Error>)
     requires { 0 < length bytes.now }
-    ensures { Nexts (state (known S.Store.means warehouse.old) loading buffer.old) offset bytes.now O.Sink sink.old sink.new result.1 (state (known S.Store.means warehouse.new) result.0 buffer.new) }
+    ensures { Nexts (state (known S.means warehouse.old) loading buffer.old) offset bytes.now O.Sink sink.old sink.new result.1 (state (known S.means warehouse.new) result.0 buffer.new) }
 {
     let (loading, outcome) = step(warehouse, loading, buffer, bytes, offset);
     let (line, width) = match outcome {
@@ -57,13 +58,14 @@ pub(crate) fn play<S: Store, O: Sink>(
     sink: &mut O,
 ) -> (Option<OpenLoad>, Result<Option<usize>, O::Error>)
     requires { offset + length bytes.now < 2 ^ 64 }
-    ensures { Plays (state (known S.Store.means warehouse.old) loading buffer.old) offset bytes.now last O.Sink sink.old sink.new result.1 (state (known S.Store.means warehouse.new) result.0 buffer.new) }
+    ensures { Plays (state (known S.means warehouse.old) loading buffer.old) offset bytes.now last O.Sink sink.old sink.new result.1 (state (known S.means warehouse.new) result.0 buffer.new) }
 {
     let mut rest = bytes;
     let mut here = offset;
     'commands: while is_ready(rest.len(), last) {
         let (next, went) = obey_next(warehouse, loading, buffer, rest, here, sink);
         loading = next;
+        // no `?`: the load goes out with every answer
         let width = match went {
             Ok(Some(width)) => width,
             Ok(None) => return (loading, Ok(None)),

@@ -10,7 +10,7 @@ use wire::write_line::write_line;
 const LINE: usize = 48;
 
 pub(crate) fn print<O: Sink>(sink: &mut O, line: Option<Line>) -> Result<(), O::Error>
-    ensures { Takes (O.Sink.took sink.old) (O.Sink.took sink.new) (O.Sink.stuck sink.new) (text (shown line)) result }
+    ensures { Takes (O.took sink.old) (O.took sink.new) (O.stuck sink.new) (text (shown line)) result }
 {
     let Some(line) = line else {
         return Ok(());

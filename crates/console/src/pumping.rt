@@ -13,13 +13,14 @@ use store::interface::Store;
 use warehouse::record::Warehouse;
 
 // Piece by piece until the source or the feed ends; what is printed of a piece is handed on before the next is read.
+// No `?` here: the load goes out with every answer.
 pub(crate) fn pump<S: Store, I: Source, O: Sink>(
     warehouse: &mut Warehouse<S>,
     buffer: &mut [i64],
     source: &mut I,
     sink: &mut O,
 ) -> (Option<OpenLoad>, Result<(), RunFault<I::Error, O::Error>>)
-    ensures { Pumps (state (known S.Store.means warehouse.old) None buffer.old) I.Source source.old source.new O.Sink sink.old sink.new result.1 (state (known S.Store.means warehouse.new) result.0 buffer.new) }
+    ensures { Pumps (state (known S.means warehouse.old) None buffer.old) I.Source source.old source.new O.Sink sink.old sink.new result.1 (state (known S.means warehouse.new) result.0 buffer.new) }
 {
     let mut loading = None;
     let mut window = Window::new();

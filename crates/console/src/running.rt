@@ -19,7 +19,7 @@ pub fn resume<S: Store, I: Source, O: Sink>(
     source: &mut I,
     sink: &mut O,
 ) -> Result<(), RunFault<I::Error, O::Error>>
-    ensures { Resumed (known S.Store.means warehouse.old) buffer.old I.Source source.old source.new O.Sink sink.old sink.new result (known S.Store.means warehouse.new) }
+    ensures { Resumed (known S.means warehouse.old) buffer.old I.Source source.old source.new O.Sink sink.old sink.new result (known S.means warehouse.new) }
 {
     let (loading, pumped) = pump(warehouse, buffer, source, sink);
     let line = end(loading);
@@ -38,7 +38,7 @@ pub fn run<S: Store + Drop, I: Source, O: Sink>(
     source: &mut I,
     sink: &mut O,
 ) -> Result<(), RunFault<I::Error, O::Error>>
-    ensures { Ran (S.Store.means store) size buffer.old I.Source source.old source.new O.Sink sink.old sink.new result }
+    ensures { Ran (S.means store) size buffer.old I.Source source.old source.new O.Sink sink.old sink.new result }
 {
     survey(&store, size).map_err(|refusal| RunFault::Founding(refusal))?;
     let mut warehouse = Warehouse::take_over(store, size);

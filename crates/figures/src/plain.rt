@@ -18,9 +18,9 @@ fn put(cells: &mut [i64], at: usize, number: i64) {
 }
 
 // One level up: sums of pairs take the place of the sums below, and their differences go to their cells.
-fn level_up(sums: &mut [i64], level: usize, many: usize, cells: &mut [i64]) {
-    let band = level.saturating_sub(1) / 4;
-    let width = 1usize << (4 * band + 4).saturating_sub(level).min(3);
+fn level_up(sums: &mut [i64], level: u8, many: usize, cells: &mut [i64]) {
+    let band = usize::from(level.saturating_sub(1) / 4);
+    let width = 1usize << (4 * band + 4).saturating_sub(usize::from(level)).min(3);
     // a pair's two places and the place of its sum are three of one slice: an index names them plainest
     for k in 0..many.min(sums.len() / 2) {
         let left = sums[2 * k];
@@ -48,7 +48,7 @@ fn tile_sums(sums: &[i64], band: usize, many: usize, cells: &mut [i64]) {
 
 // All cells at a size; the minutes are used up.
 pub(crate) fn recount(minutes: &mut [i64], size: u8, cells: &mut [i64]) {
-    let size = usize::from(size.min(20));
+    let size = size.min(20);
     if size == 0 {
         tile_sums(minutes, 0, 1, cells);
     }
@@ -56,7 +56,7 @@ pub(crate) fn recount(minutes: &mut [i64], size: u8, cells: &mut [i64]) {
         let many = 1usize << (size - level);
         level_up(minutes, level, many, cells);
         if level % 4 == 0 || level == size {
-            tile_sums(minutes, (level - 1) / 4, many, cells);
+            tile_sums(minutes, usize::from((level - 1) / 4), many, cells);
         }
     }
 }

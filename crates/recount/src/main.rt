@@ -35,15 +35,17 @@ fn play<K: Store, F: Store>(
     let mut tally = Tally::new();
     let mut loading = None;
     let mut rest = bytes;
+    let mut offset = 0u64;
     while !rest.is_empty() {
         let command = decode(rest).map_or(Command::GiveUp, |(command, _)| command);
-        let offset = (bytes.len() - rest.len()) as u64;
         let (next, outcome) = step(kept, loading, buffer, rest, offset);
         loading = next;
         match outcome {
             ControlFlow::Continue(obeyed) => {
                 tally.note(fresh, minutes, buffer, command, obeyed.line);
-                rest = &rest[obeyed.width.clamp(1, rest.len())..];
+                let width = obeyed.width.clamp(1, rest.len());
+                rest = &rest[width..];
+                offset = offset.saturating_add(width as u64);
             }
             ControlFlow::Break(_) => rest = &[],
         }

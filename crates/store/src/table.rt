@@ -1,12 +1,6 @@
-<<<<<<< HEAD
 // A table of the nonzero numbers of some cells, sorted by cell. Its places lie in it, empty at first: a store takes no memory.
-ghost use Rattle.std.specs.Prelude.{◌≡◌, ◌<◌, ◌≤◌, ◌≢◌, length, min, take, pos, MatchOption, MatchResult};
-ghost use Rattle.store.specs.Table.{Ascends, Nonzero, Lacks, Finds, Held, Gap, Stored, Puts, entry_at};
-=======
-// A table of the nonzero numbers of some cells, sorted by cell.
 ghost use Rattle.std.specs.Prelude.{◌≡◌, ◌<◌, ◌≤◌, ◌≢◌, length, min, take, pos, MatchResult};
 ghost use Rattle.store.specs.Table.{Ascends, Nonzero, Finds, Held, Gap, Stored, Puts, entry_at};
->>>>>>> ab80273d5fd4c635326679143b0ceac3b4ee1670
 
 use crate::entry::{EMPTY, Entry};
 use crate::fault::CellFault;

@@ -1,4 +1,7 @@
 // What a comparison of two warehouses finds.
+ghost use Rattle.std.specs.Prelude.{Some};
+ghost use Rattle.compare.specs.Words.{comparison_words};
+
 use std::fmt;
 
 #[derive(Clone, Copy, PartialEq, Eq, Debug)]
@@ -12,6 +15,8 @@ pub enum Comparison {
 }
 
 impl fmt::Display for Comparison {
+    ghost output = { λ found. Some (comparison_words found) };
+
     fn fmt<W: fmt::Write>(&self, f: &mut fmt::Formatter<W>) -> fmt::Result {
         match self {
             Comparison::Bands => write!(f, "the two stores have not equally many bands"),

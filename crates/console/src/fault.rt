@@ -1,11 +1,12 @@
 // Why a feed is not run to its end.
 ghost use Rattle.console.specs.Faults.{fault_text};
 
+use std::error::Error;
 use std::fmt;
 use std::fmt::Display;
 use warehouse::fault::Refusal;
 
-#[derive(Drop)]
+#[derive(Debug, Drop)]
 pub enum RunFault<I, O> {
     // no warehouse can be founded on the store
     Founding(Refusal),
@@ -29,3 +30,5 @@ impl<I: Display, O: Display> Display for RunFault<I, O> {
         }
     }
 }
+
+impl<I: Error, O: Error> Error for RunFault<I, O> {}

@@ -6,7 +6,7 @@ use crate::ends::Sink;
 use wire::line::Line;
 use wire::write_line::write_line;
 
-// The longest line is shorter.
+// The longest line is shorter. It is written into an array, since the call that writes it takes a buffer.
 const LINE: usize = 48;
 
 pub(crate) fn print<O: Sink>(sink: &mut O, line: Option<Line>) -> Result<(), O::Error>

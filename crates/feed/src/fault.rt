@@ -24,6 +24,7 @@ pub struct FeedFault {
 }
 
 impl FeedFault {
+    // The number of the rules, which the feed prints.
     pub fn number(self) -> u8
         ensures { result ≡ cause_number self.cause }
     {

@@ -1,4 +1,4 @@
-// The commands of a load.
+// The commands of a load. Each answers by `match`, since either outcome has a load to hand on or back.
 ghost use Rattle.std.specs.Prelude.{◌≡◌, Some, Err};
 ghost use Rattle.warehouse.specs.View.{known};
 ghost use Rattle.feed.specs.Step.{Begun, Filled, Finished, GivenUp, out_of_sequence, refused};

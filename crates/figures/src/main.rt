@@ -84,7 +84,7 @@ fn chance(seed: u64) -> i64 {
     (mixed >> 33).cast_signed() - 1_073_741_824
 }
 
-// Gives the load its values, from the lowest minute on. A refused value ends it.
+// Gives the load its values, from the lowest minute on: a value is made of its place. A refused value ends it.
 fn filled(
     mut load: OpenLoad,
     buffer: &mut [i64],

@@ -18,7 +18,8 @@ fn fed(rt: &HostRuntime) -> anyhow::Result<()> {
     let mut input = Input::new(rt.stdin());
     let mut output = Output::new(rt.alloc(), rt.stdout())?;
     let store = HoldBack::new(Sparse::new(3, 1024));
-    run(store, SIZE, &mut buffer, &mut input, &mut output).map_err(anyhow::Error::msg)
+    run(store, SIZE, &mut buffer, &mut input, &mut output)?;
+    Ok(())
 }
 
 fn main(rt: HostRuntime) -> anyhow::Result<()> {

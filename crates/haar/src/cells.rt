@@ -18,7 +18,8 @@ pub fn cell_count(bands: u8) -> u32
     16 * tiles_before(bands)
 }
 
-// The interval (level, index) lies in the tree of these bands.
+// The interval (level, index) lies in the tree of these bands. The two stay apart, here and in the calls above: each caller
+// works out both anew, and a struct would be made at the call to be taken apart here.
 fn in_tree(bands: u8, level: u8, index: u32) -> bool
     ensures yes { result ≡ true → InTree bands level index }
     ensures none { result ≡ false → InTree bands level index → ⊥ }

@@ -15,7 +15,7 @@ fn tiles_met(level: u32, band: u32) -> u32
     }
 }
 
-// W(level, size): 0 where there is no such load.
+// W(level, size): by the rule of the call in C, 0 where there is no such load.
 pub fn cells_written(level: u32, size: u32) -> u32
     ensures { Written level size result }
 {

@@ -6,7 +6,7 @@ use warehouse::fault::Refusal;
 pub struct OpenLoad {
     pub level: u8,
     pub index: u32,
-    // how many values have come
+    // how many values have come; they lie in the caller's buffer, since a load takes no memory
     pub taken: u32,
     ghost short: { level ≤ 12 },
     ghost few: { taken ≤ 2 ^ level },

@@ -41,7 +41,8 @@ fn in_cell(reach: Reach, band: u8, cell: u32) -> Coefficient
     )
 }
 
-// the first touched cell of a band from `from` on
+// the first touched cell of a band from `from` on. A `find` would have to show of every turn at once what `in_cell` requires: that
+// goal stayed open.
 fn next_in_band(reach: Reach, band: u8, from: u32) -> Option<Touch>
     requires { band < reach.bands }
     ensures { elim result [ Some x ↦ FoundIn reach.bands reach.size reach.level reach.index band from (x.coefficient) x.cell | None ↦ PastIn reach.bands reach.size reach.level reach.index band from ] }

@@ -55,7 +55,7 @@ impl Tally {
         }
     }
 
-    // An accepted load as points, its last minute first.
+    // An accepted load as points, its last minute first. A place in the buffer is a minute's number too.
     fn add_chunk<F: Store>(
         &mut self,
         fresh: &mut Warehouse<F>,

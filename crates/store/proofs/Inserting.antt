@@ -5,7 +5,7 @@ use Rattle.std.proofs.lemmas.Bool.{cases_lt, cases_order}
 use Rattle.std.proofs.lemmas.List.{get_or-set_same, get_or-set_other}
 use Rattle.store.specs.declared.entry.Entry.{Entry}
 use Rattle.store.specs.Meaning.{weight}
-use Rattle.store.specs.Table.{entry_at, Ascends, Lacks, Held, Gap, Stored, lookup}
+use Rattle.store.specs.Table.{entry_at, Ascends, Nonzero, Lacks, Held, Gap, Stored, lookup}
 use Rattle.store.proofs.Counting.{weight_one}
 use Rattle.store.proofs.Lookups.{hit, miss, gap_lacks, carried}
 use Rattle.store.proofs.Tidy.{Tidy}
@@ -111,6 +111,17 @@ module _ (es fs : List Entry) (at n m : ℕ) (new : Entry) (more : m ≡ n + 1) 
             let up = a (j + 1) (k + 1) (omega arith) (omega arith) in
             omega arith
       ]
+
+  -- no number is zero
+  pub nonzero_more : Nonzero es n → (new.value ≡ pos 0 → ⊥) → Nonzero fs m
+  nonzero_more z ne k l =
+      elim (back k l) [
+        | inl q ↦ λ o. ne (sym (ap (λ (e : Entry). e.value) q) ∙ o)
+        | inr b ↦ λ o. z b.0 b.1 (ap (λ (e : Entry). e.value) b.2 ∙ o)
+      ]
+
+  pub nonzero_less : Nonzero fs m → Nonzero es n
+  nonzero_less z k l = let t = there k l in λ o. z t.0 t.1 (ap (λ (e : Entry). e.value) t.2 ∙ o)
 
   -- every other cell keeps its number
   pub others : Ascends es n → Ascends fs m → (c : ℕ) → (c ≡ new.cell → ⊥) → lookup fs m c ≡ lookup es n c

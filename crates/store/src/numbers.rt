@@ -5,6 +5,7 @@ ghost use Rattle.store.specs.Faults.{cell_fault_number};
 use crate::fault::CellFault;
 
 impl CellFault {
+    // The number of the rules.
     pub fn number(self) -> u8
         ensures { result ≡ cell_fault_number self }
     {

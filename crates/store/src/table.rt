@@ -1,6 +1,6 @@
-// A table of the nonzero numbers of some cells, sorted by cell.
-ghost use Rattle.std.specs.Prelude.{◌≡◌, ◌<◌, ◌≤◌, ◌≢◌, length, min, take, pos, MatchOption, MatchResult};
-ghost use Rattle.store.specs.Table.{Ascends, Nonzero, Lacks, Finds, Held, Gap, Stored, Puts, entry_at};
+// A table of the nonzero numbers of some cells, sorted by cell. Its places lie in it, empty at first: a store takes no memory.
+ghost use Rattle.std.specs.Prelude.{◌≡◌, ◌<◌, ◌≤◌, ◌≢◌, length, min, take, pos, MatchResult};
+ghost use Rattle.store.specs.Table.{Ascends, Nonzero, Finds, Held, Gap, Stored, Puts, entry_at};
 
 use crate::entry::{EMPTY, Entry};
 use crate::fault::CellFault;

@@ -7,6 +7,7 @@ use crate::fault::{Asked, Fault, Refusal};
 use store::fault::CellFault;
 
 impl Fault {
+    // The number of the rules.
     pub fn number(self) -> u8
         ensures { result ≡ fault_number self }
     {

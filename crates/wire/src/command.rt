@@ -26,6 +26,7 @@ pub enum DecodeFault {
 }
 
 impl DecodeFault {
+    // The number of the rules, which the feed prints.
     pub fn number(self) -> u8
         ensures { result ≡ decode_fault_number self }
     {

@@ -24,6 +24,7 @@ pub enum LineFault {
 }
 
 impl LineFault {
+    // The number of the rules.
     pub fn number(self) -> u8
         ensures { result ≡ line_fault_number self }
     {

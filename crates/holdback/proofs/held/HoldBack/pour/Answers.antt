@@ -23,9 +23,3 @@ loop-entry-preserved g c =
     let w = subst W same (simp to_z-of_z at c.write.ensures) in
     pour_step (g.S.Store.means c.args.self.now.below) t.entries t.used (tidy t) c.requires (g.S.Store.means c.loop-entry.below) (g.S.Store.means c.write.new.self) i c.write.result l
     c.loop-entry.invariant w
-
-pub returns : goal.returns
-returns g c =
-    let t = c.args.self.now.held in
-    let P : ℕ → Type 0 = λ i. Same (held_over t.entries i (g.S.Store.means c.args.self.now.below)) (g.S.Store.means c.loop-entry.below) in
-    subst P (omega (arith, c.entries-entry-items.ensures.len)) c.loop-entry.invariant

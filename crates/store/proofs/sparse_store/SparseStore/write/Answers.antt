@@ -1,13 +1,7 @@
-use Rattle.std.proofs.Common.{arith, rules}
-use Rattle.store.proofs.Storing.{inside_puts, spare_puts}
+use Rattle.std.proofs.Common.{rules}
+use Rattle.store.proofs.Storing.{inside_puts}
 use Rattle.store.proofs.Tidy.{tidy}
 use Rattle.store.proofs.sparse_store.SparseStore.write.Goals as goal
-
-pub invariant_of-self-clause-spare : goal.invariant_of-self-clause-spare
-invariant_of-self-clause-spare c =
-    let s = c.args.self.now in
-    let l = spare_puts s.bands _ _ _ _ _ _ _ _ c.put.ensures (omega (arith, s.spare, s.bounded)) in
-    omega (arith, l)
 
 pub invariant_of-self-clause-inside : goal.invariant_of-self-clause-inside
 invariant_of-self-clause-inside c = inside_puts c.args.self.now.bands _ _ _ _ _ _ _ _ c.put.ensures (search rules) (tidy c.put.new.self) c.args.self.now.inside

@@ -28,13 +28,6 @@ overflow_add-sum g c =
     let p = piece_small m.bands c.args.self.now.size (look m) _ _ c.in_ok-piece.piece (sym c.piece.ensures ∙ c.in_ok-piece.was) in
     added_fits c.loop-at.sum.value c.in_ok-piece.piece.value s.0 p.0
 
-pub overflow_add-sum-in-loop-at : goal.overflow_add-sum-in-loop-at
-overflow_add-sum-in-loop-at g c =
-    let m = g.S.Store.means c.args.self.now.store.now in
-    let s = small_sum m.bands _ (look m) _ _ c.args.self.now.most c.requires.inside _ _ c.loop-at.invariant in
-    let p = piece_small m.bands c.args.self.now.size (look m) _ _ c.in_ok-piece.piece (sym c.piece.ensures ∙ c.in_ok-piece.was) in
-    omega (arith, s.1, p.1)
-
 pub loop-at-preserved : goal.loop-at-preserved
 loop-at-preserved g c =
     let m = g.S.Store.means c.args.self.now.store.now in

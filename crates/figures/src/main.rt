@@ -92,6 +92,7 @@ fn filled(
 ) -> Result<OpenLoad, Refusal> {
     let many = 1u32 << case.level.min(12);
     let first = case.index.saturating_mul(many);
+    // over the numbers of places: each gives the minute and the value, and indexes nothing
     for place in 0..many {
         let value = chance(u64::from(case.index) * 4099 + u64::from(place));
         if let Some(minute) = minutes.get_mut(first.saturating_add(place) as usize) {

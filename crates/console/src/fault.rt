@@ -23,7 +23,7 @@ impl<I: Display, O: Display> Display for RunFault<I, O> {
 
     fn fmt<W: fmt::Write>(&self, f: &mut fmt::Formatter<W>) -> fmt::Result {
         match self {
-            RunFault::Founding(_) => write!(f, "the store is not empty"),
+            RunFault::Founding(refusal) => write!(f, "{refusal}"),
             RunFault::Input(error) => write!(f, "{error}"),
             RunFault::Output(error) => write!(f, "{error}"),
             RunFault::Long => write!(f, "the feed is longer than can be counted"),

@@ -87,6 +87,7 @@ pub fn step<S: Store>(
 ) -> (Option<OpenLoad>, ControlFlow<Line, Obeyed>)
     ensures { Steps (known S.means warehouse.old) loading buffer.old bytes.now offset result.0 result.1 buffer.new (known S.means warehouse.new) }
 {
+    // by `let .. else`, the form that the step is given: it takes the decoded command or leaves
     let decoded = decode(bytes);
     let Ok((command, rest)) = decoded else {
         let fault = FeedFault::from((decoded.unwrap_err(), offset));

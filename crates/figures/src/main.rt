@@ -5,7 +5,6 @@
 mod damaged;
 mod plain;
 
-use anyhow::bail;
 use flat::slice::Flat;
 use loads::loading::begin;
 use loads::open::{OpenLoad, RefusedLoad};
@@ -93,6 +92,7 @@ fn filled(
 ) -> Result<OpenLoad, Refusal> {
     let many = 1u32 << case.level.min(12);
     let first = case.index.saturating_mul(many);
+    // over the numbers of places: each gives the minute and the value, and indexes nothing
     for place in 0..many {
         let value = chance(u64::from(case.index) * 4099 + u64::from(place));
         if let Some(minute) = minutes.get_mut(first.saturating_add(place) as usize) {
@@ -134,10 +134,7 @@ fn try_case(rt: &HostRuntime, case: Case) -> anyhow::Result<()> {
     let mut expected = vec![in rt.alloc(); 0i64; CELLS]?;
     let mut minutes = vec![in rt.alloc(); 0i64; MINUTES]?;
     let mut buffer = vec![in rt.alloc(); 0i64; CHUNK]?;
-    let written = match loaded(Flat::new(&mut cells), &mut buffer, &mut minutes, case) {
-        Ok(written) => written,
-        Err(refusal) => bail!("the load is refused with {}", refusal.fault.number()),
-    };
+    let written = loaded(Flat::new(&mut cells), &mut buffer, &mut minutes, case)?;
     recount(&mut minutes, case.size, &mut expected);
     println!(rt;
         "level {} at size {}: {written} cells written, {} cells differ from the recount",

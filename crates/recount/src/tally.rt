@@ -64,6 +64,7 @@ impl Tally {
     ) {
         let many = 1u32 << self.level.min(12);
         let first = self.index.saturating_mul(many);
+        // over the numbers of places: each gives a minute too, so `enumerate` would say no less
         for place in (0..many).rev() {
             let value = minute_of(buffer, place as usize);
             self.add(fresh, minutes, first.saturating_add(place), value);

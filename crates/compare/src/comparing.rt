@@ -30,8 +30,5 @@ pub fn compare<K: Store, F: Store>(kept: &Warehouse<K>, fresh: &Warehouse<F>) ->
     if kept.store.bands() != fresh.store.bands() {
         return Comparison::Bands;
     }
-    match lowest_difference(&kept.store, &fresh.store) {
-        Some(cell) => Comparison::Differ(cell),
-        None => Comparison::Alike,
-    }
+    lowest_difference(&kept.store, &fresh.store).map_or(Comparison::Alike, Comparison::Differ)
 }

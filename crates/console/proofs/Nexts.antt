@@ -13,7 +13,7 @@ use Rattle.feed.specs.declared.fault.FeedFault.{FeedFault}
 use Rattle.feed.specs.Step.{Reply, Outcome, Steps, StepsBy, on, after, after_fault}
 use Rattle.loads.specs.declared.open.OpenLoad.{OpenLoad}
 use Rattle.std.specs.declared.ops.ControlFlow.TheVariants.{Continue, Break}
-use Rattle.feed.proofs.Advancing.{shorter, after_command}
+use Rattle.wire.proofs.Rows.{shorter, after_command}
 use Rattle.agreement.specs.History.{History, Leads}
 use Rattle.feedlaw.specs.Turns.{turn}
 use Rattle.feedlaw.specs.Lines.{ending, shown, told, text}

@@ -1,9 +1,9 @@
-// The commands of a load. Each answers by `match`, since either outcome has a load to hand on or back.
-ghost use Rattle.std.specs.Prelude.{◌≡◌, Some, Err};
+// The commands of a load, in their turn. Each answers by `match`: the load goes into one half of the pair, the line into the other.
+ghost use Rattle.std.specs.Prelude.{◌≡◌, Some, None, Err};
 ghost use Rattle.warehouse.specs.View.{known};
-ghost use Rattle.feed.specs.Step.{Begun, Filled, Finished, GivenUp, out_of_sequence, refused};
+ghost use Rattle.feed.specs.Step.{Begun, Filled, Finished, refused};
 
-use crate::fault::{Cause, FeedFault};
+use crate::fault::FeedFault;
 use crate::obeyed::Reply;
 use loads::loading::begin;
 use loads::open::{OpenLoad, RefusedLoad};
@@ -11,30 +11,17 @@ use store::interface::Store;
 use warehouse::record::Warehouse;
 use wire::line::Line;
 
-fn out_of_sequence(offset: u64) -> FeedFault
-    ensures { result ≡ out_of_sequence offset }
-{
-    FeedFault {
-        cause: Cause::Sequence,
-        offset,
-    }
-}
-
 pub(crate) fn begin_load<S: Store>(
     warehouse: &Warehouse<S>,
-    loading: Option<OpenLoad>,
     level: u8,
     index: u32,
     offset: u64,
 ) -> (Option<OpenLoad>, Reply)
-    ensures { Begun (known S.means warehouse.now).size loading level index offset result.0 result.1 }
+    ensures { Begun (known S.means warehouse.now).size None level index offset result.0 result.1 }
 {
-    match loading {
-        Some(load) => (Some(load), Err(out_of_sequence(offset))),
-        None => match begin(warehouse, level, index) {
-            Ok(load) => (Some(load), Ok(Some(Line::Begun))),
-            Err(refusal) => (None, Err(FeedFault::from((refusal, offset)))),
-        },
+    match begin(warehouse, level, index) {
+        Ok(load) => (Some(load), Ok(Some(Line::Begun))),
+        Err(refusal) => (None, Err(FeedFault::from((refusal, offset)))),
     }
 }
 
@@ -48,16 +35,13 @@ fn handed_back(back: RefusedLoad, offset: u64) -> (Option<OpenLoad>, Reply)
 }
 
 pub(crate) fn take_value(
-    loading: Option<OpenLoad>,
+    load: OpenLoad,
     buffer: &mut [i64],
     value: i32,
     offset: u64,
 ) -> (Option<OpenLoad>, Reply)
-    ensures { Filled loading buffer.old value offset result.0 result.1 buffer.new }
+    ensures { Filled (Some load) buffer.old value offset result.0 result.1 buffer.new }
 {
-    let Some(load) = loading else {
-        return (loading, Err(out_of_sequence(offset)));
-    };
     match load.value(buffer, i64::from(value)) {
         Ok(load) => (Some(load), Ok(None)),
         Err(back) => handed_back(back, offset),
@@ -66,28 +50,15 @@ pub(crate) fn take_value(
 
 pub(crate) fn finish_load<S: Store>(
     warehouse: &mut Warehouse<S>,
-    loading: Option<OpenLoad>,
+    load: OpenLoad,
     buffer: &mut [i64],
     offset: u64,
 ) -> (Option<OpenLoad>, Reply)
     ensures restored { buffer.new ≡ buffer.old }
-    ensures finished { Finished (known S.means warehouse.old) loading buffer.old offset result.0 result.1 (known S.means warehouse.new) }
+    ensures finished { Finished (known S.means warehouse.old) (Some load) buffer.old offset result.0 result.1 (known S.means warehouse.new) }
 {
-    let Some(load) = loading else {
-        return (loading, Err(out_of_sequence(offset)));
-    };
     match load.finish(warehouse, buffer) {
         Ok(cells) => (None, Ok(Some(Line::Finished { cells }))),
         Err(back) => handed_back(back, offset),
     }
-}
-
-pub(crate) fn give_up_load(loading: Option<OpenLoad>, offset: u64) -> (Option<OpenLoad>, Reply)
-    ensures { GivenUp loading offset result.0 result.1 }
-{
-    let Some(load) = loading else {
-        return (loading, Err(out_of_sequence(offset)));
-    };
-    let values = load.give_up();
-    (None, Ok(Some(Line::GivenUp { values })))
 }

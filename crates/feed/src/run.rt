@@ -1,10 +1,10 @@
 // One command of the feed: decoded, obeyed, answered.
 ghost use Rattle.std.specs.Prelude.{◌≡◌};
 ghost use Rattle.warehouse.specs.View.{known};
-ghost use Rattle.feed.specs.Step.{told, after, Obeys, Steps, ending};
+ghost use Rattle.feed.specs.Step.{out_of_sequence, told, after, Obeys, Steps, ending};
 
 use crate::fault::{Cause, FeedFault};
-use crate::load::{begin_load, finish_load, give_up_load, take_value};
+use crate::load::{begin_load, finish_load, take_value};
 use crate::obeyed::{Obeyed, Reply};
 use loads::growth::grow;
 use loads::open::OpenLoad;
@@ -25,6 +25,15 @@ fn told(answer: Result<Line, Refusal>, offset: u64) -> Reply
     Ok(Some(line))
 }
 
+fn out_of_sequence(offset: u64) -> FeedFault
+    ensures { result ≡ out_of_sequence offset }
+{
+    FeedFault {
+        cause: Cause::Sequence,
+        offset,
+    }
+}
+
 fn obey<S: Store>(
     warehouse: &mut Warehouse<S>,
     loading: Option<OpenLoad>,
@@ -34,29 +43,46 @@ fn obey<S: Store>(
 ) -> (Option<OpenLoad>, Reply)
     ensures { Obeys (known S.means warehouse.old) loading buffer.old command offset result.0 result.1 buffer.new (known S.means warehouse.new) }
 {
-    let answer = match command {
-        Command::Begin { level, index } => {
-            return begin_load(warehouse, loading, level, index, offset);
+    let (loading, answer) = match (command, loading) {
+        (Command::Begin { level, index }, None) => {
+            return begin_load(warehouse, level, index, offset);
         }
-        Command::Value { value } => return take_value(loading, buffer, value, offset),
-        Command::Finish => return finish_load(warehouse, loading, buffer, offset),
-        Command::GiveUp => return give_up_load(loading, offset),
-        Command::Add { minute, value } => {
-            add_point(warehouse, minute, i64::from(value)).map(|cells| Line::Added { cells })
+        (Command::Value { value }, Some(load)) => return take_value(load, buffer, value, offset),
+        (Command::Finish, Some(load)) => return finish_load(warehouse, load, buffer, offset),
+        (Command::GiveUp, Some(load)) => {
+            let values = load.give_up();
+            (None, Ok(Line::GivenUp { values }))
         }
-        Command::Grow => grow(warehouse).map(|size| Line::Grown { size }),
-        Command::Point { minute } => warehouse.point(minute).map(|reading| Line::Point {
-            value: reading.value,
-            cells: reading.cells,
-        }),
-        Command::Sum { from, to } => warehouse.sum(from, to).map(|reading| Line::Sum {
-            sum: reading.value,
-            cells: reading.cells,
-        }),
-        Command::Mean { from, to } => warehouse.mean(from, to).map(|reading| Line::Mean {
-            mean: reading.value,
-            cells: reading.cells,
-        }),
+        (
+            Command::Begin { .. } | Command::Value { .. } | Command::Finish | Command::GiveUp,
+            loading,
+        ) => return (loading, Err(out_of_sequence(offset))),
+        (Command::Add { minute, value }, loading) => (
+            loading,
+            add_point(warehouse, minute, i64::from(value)).map(|cells| Line::Added { cells }),
+        ),
+        (Command::Grow, loading) => (loading, grow(warehouse).map(|size| Line::Grown { size })),
+        (Command::Point { minute }, loading) => (
+            loading,
+            warehouse.point(minute).map(|reading| Line::Point {
+                value: reading.value,
+                cells: reading.cells,
+            }),
+        ),
+        (Command::Sum { from, to }, loading) => (
+            loading,
+            warehouse.sum(from, to).map(|reading| Line::Sum {
+                sum: reading.value,
+                cells: reading.cells,
+            }),
+        ),
+        (Command::Mean { from, to }, loading) => (
+            loading,
+            warehouse.mean(from, to).map(|reading| Line::Mean {
+                mean: reading.value,
+                cells: reading.cells,
+            }),
+        ),
     };
     (loading, told(answer, offset))
 }
@@ -67,17 +93,20 @@ fn after(reply: Reply, width: usize) -> ControlFlow<Line, Obeyed>
 {
     let line = match reply {
         Ok(line) => line,
-        Err(fault) => match fault.cause {
-            Cause::Decode(_) => return ControlFlow::Break(Line::from(fault)),
-            Cause::Sequence | Cause::Warehouse(_) => Some(Line::from(fault)),
-        },
+        Err(
+            fault @ FeedFault {
+                cause: Cause::Decode(_),
+                ..
+            },
+        ) => return ControlFlow::Break(Line::from(fault)),
+        Err(fault) => Some(Line::from(fault)),
     };
     ControlFlow::Continue(Obeyed { line, width })
 }
 
 // The command at the front of the bytes, which stands at this offset of the feed.
 // No struct holds the three: a load cannot be put back behind a `&mut`, and each method would owe that it keeps both loans.
-#[tactic(auto, using(crate::proofs::Advancing::shorter))]
+#[tactic(auto, using(wire::proofs::Rows::shorter))]
 pub fn step<S: Store>(
     warehouse: &mut Warehouse<S>,
     loading: Option<OpenLoad>,
@@ -87,7 +116,7 @@ pub fn step<S: Store>(
 ) -> (Option<OpenLoad>, ControlFlow<Line, Obeyed>)
     ensures { Steps (known S.means warehouse.old) loading buffer.old bytes.now offset result.0 result.1 buffer.new (known S.means warehouse.new) }
 {
-    // by `let .. else`, the form that the step is given: it takes the decoded command or leaves
+    // by `let .. else`, by a rule of the project: the step takes the decoded command or leaves
     let decoded = decode(bytes);
     let Ok((command, rest)) = decoded else {
         let fault = FeedFault::from((decoded.unwrap_err(), offset));

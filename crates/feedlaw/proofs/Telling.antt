@@ -6,7 +6,7 @@ use Rattle.wire.specs.declared.line.Line.{Line}
 use Rattle.wire.specs.declared.line.Line.TheVariants as line
 use Rattle.wire.specs.Decode.{decoded, decode_fault_number}
 use Rattle.wire.specs.Line.{line_bytes}
-use Rattle.feed.proofs.Advancing.{shorter}
+use Rattle.wire.proofs.Rows.{shorter}
 use Rattle.feedlaw.specs.Turns.{Desk, turn}
 use Rattle.feedlaw.specs.Lines.{ending, shown, lines_by, lines, told, text}
 

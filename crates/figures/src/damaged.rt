@@ -19,13 +19,10 @@ pub(crate) fn ask(rt: &HostRuntime, sum: i64, difference: i64) -> anyhow::Result
             "minute 1 is {}, from {} cells",
             reading.value, reading.cells
         )?,
-        Err(
-            Refusal {
-                fault: Fault::Torn(cell),
-                ..
-            },
-        ) => println!(rt; "refusal {} at cell {cell}", Fault::Torn(cell).number())?,
-        Err(refusal) => println!(rt; "refusal {}", refusal.fault.number())?,
+        Err(Refusal { fault, .. }) => match fault {
+            Fault::Torn(cell) => println!(rt; "refusal {} at cell {cell}", fault.number())?,
+            _ => println!(rt; "refusal {}", fault.number())?,
+        },
     }
     Ok(())
 }

@@ -75,7 +75,8 @@ const CASES: [Case; 9] = [
     },
 ];
 
-// A number from -2^31 to 2^31 - 1 that looks like chance.
+// A number from -2^30 to 2^30 - 1 that looks like chance.
+// By hand: made of a place alone, where a generator of `rand_xoshiro` would have to be carried on.
 fn chance(seed: u64) -> i64 {
     let mixed = seed
         .wrapping_mul(6_364_136_223_846_793_005)

@@ -1,13 +1,14 @@
 -- Counting the zero cells of a slice.
-use Rattle.std.proofs.Common.{◌≡◌, ℕ, zero, suc, ◌+◌, ◌<◌, ◌≤◌, Bool, true, false, nat_eq, List, length, take, count_by, ℤ, refl, ap, inl, inr, add-one, arith}
-use Rattle.std.proofs.lemmas.Bool.{cases_eq}
+use Rattle.std.proofs.Common.{◌≡◌, ℕ, zero, suc, ◌+◌, ◌<◌, ◌≤◌, Bool, true, false, nat_eq, Option, Some, None, List, length, take, count_by, ℤ, refl, sym, subst, ap, inl, inr, add-one, arith}
+use Rattle.std.proofs.lemmas.Bool.{cases_eq, cases_lt}
 use Rattle.std.proofs.lemmas.Bool.Decides.{nat_tests}
 use Rattle.std.proofs.lemmas.List.Sums.{count_by_more_yes, count_by_more_no}
+use Rattle.std.specs.Option.{unwrap_or}
 use Rattle.haar.specs.Tiles.{tiles_before, cell_count}
 use Rattle.haar.proofs.Places.{before_most}
 use Rattle.store.specs.Meaning.{weight, filled}
 use Rattle.store.proofs.Counting.{weight_most}
-use Rattle.flat.specs.Slice.{number_at}
+use Rattle.flat.specs.Slice.{number_at, Greatest}
 
 -- without bands there are no cells
 pub none_before : tiles_before 0 ≡ 0
@@ -51,3 +52,9 @@ filled_less x c (suc n) h z =
       | inl q ↦ let m = filled_most x n in let w = ap (λ k. weight (x k)) q in omega arith
       | inr ne ↦ let m = filled_less x c n (omega arith) z in let w = weight_most (x n) in omega arith
     ]
+
+-- the first of the numbers of bands from 5 down whose cells fit, or none
+pub greatest_found : (n : ℕ) (found : Option ℕ) (T : ℕ) → T ≡ unwrap_or found 0 → ((b : ℕ) → found ≡ Some b → (b ≤ 5) × (cell_count b ≤ n)) → ((b : ℕ) → found ≡ Some b → (d : ℕ) → b < d → d ≤ 5 → n < cell_count d)
+    → (found ≡ None → (d : ℕ) → 0 < d → d ≤ 5 → n < cell_count d) → Greatest n T
+greatest_found n (Some b) T e some rest none = subst (Greatest n) (sym e) (record { few = (some b refl).0; fits = (some b refl).1; greatest = λ d few fits. elim (cases_lt b d) [ inl above ↦ let past = rest b refl d above few in absurd (omega arith) | inr below ↦ below ] })
+greatest_found n None T e some rest none = subst (Greatest n) (sym e) (record { few = omega arith; fits = omega (arith, none_before); greatest = λ d few fits. elim (cases_lt 0 d) [ inl above ↦ let past = none refl d above few in absurd (omega arith) | inr below ↦ below ] })

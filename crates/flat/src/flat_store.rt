@@ -7,8 +7,7 @@ ghost use Rattle.flat.specs.Laws.{slice_lawful};
 
 use crate::slice::Flat;
 use crate::zeros::zeros_after;
-use haar::cells::cell_count;
-use store::fault::CellFault;
+use store::fault::{CellFault, check_cell};
 use store::interface::Store;
 
 impl Store for Flat<'_> {
@@ -21,11 +20,8 @@ impl Store for Flat<'_> {
     }
 
     fn read(&self, cell: u32) -> Result<i64, CellFault> {
-        if cell < cell_count(self.bands) {
-            Ok(self.numbers[cell as usize])
-        } else {
-            Err(CellFault::Cell(cell))
-        }
+        check_cell(self.bands, cell)?;
+        Ok(self.numbers[cell as usize])
     }
 
     // never full: a zero cell is room for its own number
@@ -34,9 +30,7 @@ impl Store for Flat<'_> {
         ensures lender { self.new.numbers.ghost_name ≡ self.old.numbers.ghost_name }
         ensures placed { Placed self.old.bands self.old.numbers.now cell value result self.new.numbers.now }
     {
-        if cell >= cell_count(self.bands) {
-            return Err(CellFault::Cell(cell));
-        }
+        check_cell(self.bands, cell)?;
         let zeros = zeros_after(self.zeros, self.numbers[cell as usize], value);
         // in parts, since a write through `self.numbers` would need the count right before it too
         let Flat {

@@ -35,10 +35,8 @@ impl<'a> Flat<'a> {
 fn most_bands(numbers: usize) -> u8
     ensures { Greatest numbers result }
 {
-    for bands in (1..=5).rev() {
-        if cell_count(bands) as usize <= numbers {
-            return bands;
-        }
-    }
-    0
+    (1..=5)
+        .rev()
+        .find(|&bands| cell_count(bands) as usize <= numbers)
+        .unwrap_or(0)
 }

@@ -9,7 +9,8 @@ pub(crate) fn count_zeros(numbers: &[i64], cells: u32) -> u32
     ensures { result + filled (number_at numbers.now) cells ≡ cells }
 {
     let numbers = &numbers[..cells as usize];
-    numbers.iter().filter(|number| **number == 0).count() as u32
+    let zeros = numbers.iter().filter(|number| **number == 0).count();
+    u32::try_from(zeros).unwrap()
 }
 
 // The count of zeros after a number took another's place.

@@ -1,5 +1,6 @@
 -- The cell of a coefficient from its band, tile and slot, as the code works it out.
-use Rattle.std.proofs.Common.{◌≡◌, ℕ, zero, suc, ◌+◌, ◌-◌, ◌*◌, ◌/◌, ◌%◌, ◌^◌, ◌<◌, ◌≤◌, min, sym, ap, sub-one, arith}
+use Rattle.std.proofs.Common.{◌≡◌, ℕ, zero, suc, ◌+◌, ◌-◌, ◌*◌, ◌/◌, ◌%◌, ◌^◌, ◌<◌, ◌≤◌, min, sym, ap, subst, ⊎_elim, sub-one, arith}
+use Rattle.std.proofs.lemmas.Bool.{cases_lt}
 use Rattle.haar.specs.declared.coefficient.Coefficient.{Coefficient}
 use Rattle.haar.specs.declared.coefficient.Coefficient.TheVariants.{TileSum, Difference}
 use Rattle.haar.specs.Tiles.{band, tile, slot, tiles_before, cell_number, Inside}
@@ -7,6 +8,10 @@ use Rattle.haar.specs.Places.{InTree}
 use Rattle.haar.proofs.Ladder.{rising}
 use Rattle.haar.proofs.Numbers.{before_rises, inside_below}
 use Rattle.haar.proofs.Read.{start_inside}
+
+-- a number of 32 bits is below 2^d where it is below 2^e, and e is d or 32
+pub capped : (d e k : ℕ) → e ≡ min d 32 → k < 2 ^ 32 → k < 2 ^ d → k < 2 ^ e
+capped d e k is a b = ⊎_elim (λ (l : d < 32). let q : d ≡ e = omega arith in subst (λ x. k < 2 ^ x) q b) (λ (g : 32 ≤ d). let q : 32 ≡ e = omega arith in subst (λ x. k < 2 ^ x) q a) (cases_lt d 32)
 
 -- a cell from its parts
 pub number_at : (T : ℕ) (s : Coefficient) → 1 ≤ T → cell_number T s ≡ 16 * (tiles_before (T - 1 - band s) + tile s) + slot s

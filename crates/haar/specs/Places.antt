@@ -1,4 +1,5 @@
 -- What the calls for cells and counts answer, for every input.
+--   InSize           the interval (j,k) lies inside size n
 --   DifferenceCell   the cell of D(j,k) in a store of T bands, if its tree has that difference
 --   SumCell          slot 0 of the tile from which S(j,k) is read, if its tree has that sum
 --   Written          W(m,n), and 0 where there is no such load
@@ -6,6 +7,9 @@ use Rattle.std.specs.Prelude.{◌≡◌, ℕ, ◌+◌, ◌-◌, ◌*◌, ◌/◌
 use Rattle.haar.specs.declared.coefficient.Coefficient.TheVariants.{TileSum, Difference}
 use Rattle.haar.specs.Tiles.{cell_number}
 use Rattle.haar.specs.Count.{W}
+
+abbrev pub InSize : ℕ → ℕ → ℕ → Type 0
+InSize n j k = (j ≤ n) × (k < 2 ^ (n - j))
 
 -- the interval (j,k) lies in the tree of T bands, of which a store has at most five
 pub record InTree (T j k : ℕ) : Type 0 where

@@ -1,7 +1,7 @@
 // The cells of a store: how many there are, and which one holds a coefficient.
-ghost use Rattle.std.specs.Prelude.{◌≡◌, ℕ, ◌≤◌, min, true, false};
+ghost use Rattle.std.specs.Prelude.{◌≡◌, ℕ, ◌≤◌, ◌↔◌, min, IsTrue};
 ghost use Rattle.haar.specs.Tiles.{tiles_before, cell_count};
-ghost use Rattle.haar.specs.Places.{InTree, DifferenceCell, SumCell};
+ghost use Rattle.haar.specs.Places.{InSize, InTree, DifferenceCell, SumCell};
 
 // How many tiles stand before the band that has `above` bands above it; more than five count as five.
 pub fn tiles_before(above: u8) -> u32
@@ -18,13 +18,19 @@ pub fn cell_count(bands: u8) -> u32
     16 * tiles_before(bands)
 }
 
-// The interval (level, index) lies in the tree of these bands. The two stay apart, here and in the calls above: each caller
-// works out both anew, and a struct would be made at the call to be taken apart here.
-fn in_tree(bands: u8, level: u8, index: u32) -> bool
-    ensures yes { result ≡ true → InTree bands level index }
-    ensures none { result ≡ false → InTree bands level index → ⊥ }
+// Whether the interval (level, index) lies inside a size.
+// The two stay apart, also below: each caller works out both anew, and a struct would be made at the call to be taken apart.
+pub fn is_inside(size: u8, level: u8, index: u32) -> bool
+    ensures { IsTrue result ↔ InSize size level index }
 {
-    bands <= 5 && level <= 4 * bands && index < 1 << (4 * bands - level)
+    level <= size && u64::from(index) < 1 << (size - level).min(32)
+}
+
+// Whether the interval lies in the tree of these bands.
+fn in_tree(bands: u8, level: u8, index: u32) -> bool
+    ensures { IsTrue result ↔ InTree bands level index }
+{
+    bands <= 5 && is_inside(4 * bands, level, index)
 }
 
 // The cell of D(level, index) in a store of these bands, where its tree has that difference.

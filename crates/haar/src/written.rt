@@ -1,18 +1,13 @@
 // How many cells a load writes.
-ghost use Rattle.std.specs.Prelude.{◌≡◌, ℕ, ◌+◌, ◌-◌, ◌*◌, ◌^◌, ◌<◌, ◌≤◌, if◌then◌else◌, nat_le};
+ghost use Rattle.std.specs.Prelude.{◌≡◌};
+ghost use Rattle.haar.specs.Count.{bands_in_use};
 ghost use Rattle.haar.specs.Places.{Written};
 
-// The tiles of a band that a chunk touches.
-fn tiles_met(level: u32, band: u32) -> u32
-    requires { (level ≤ 12) × (band < 5) }
-    ensures value { result ≡ (if nat_le (4 * band + 4) level then 2 ^ (level - (4 * band + 4)) else 1) }
-    ensures bound { result ≤ 256 }
+// How many bands are in use at a size.
+pub fn bands_in_use(size: u8) -> u8
+    ensures { result ≡ bands_in_use size }
 {
-    if level >= 4 * band + 4 {
-        1 << (level - (4 * band + 4))
-    } else {
-        1
-    }
+    size.div_ceil(4).max(1)
 }
 
 // W(level, size): by the rule of the call in C, 0 where there is no such load.
@@ -23,8 +18,11 @@ pub fn cells_written(level: u32, size: u32) -> u32
         return 0;
     }
     let mut count = (1u32 << level) - 1 + (size - level);
-    for band in 0..size.div_ceil(4).max(1) {
-        count += tiles_met(level, band);
+    // the call in C takes 32 bits; the size is at most 20 here
+    let bands = u32::from(bands_in_use(size as u8));
+    // by a loop: with a `fold` it stayed open that its closure can be called at each turn
+    for band in 0..bands {
+        count += 1 << level.saturating_sub(4 * band + 4);
     }
     count
 }

@@ -7,7 +7,7 @@ use Rattle.std.proofs.lemmas.Bool.Decides.{nat_tests}
 use Rattle.haar.specs.Tiles.{cell_count}
 use Rattle.store.specs.declared.entry.Entry.{Entry}
 use Rattle.store.specs.Meaning.{Meaning, weight, filled}
-use Rattle.store.specs.Table.{entry_at, lookup, Ascends, Lacks}
+use Rattle.store.specs.Table.{entry_at, lookup, Ascends, LacksAmong}
 use Rattle.store.proofs.Counting.{filled_same, filled_put, weight_one, weight_most}
 use Rattle.store.proofs.Lookups.{miss}
 use Rattle.holdback.specs.Over.{choose, over, fresh, held_over, Alike, zero_at}
@@ -24,7 +24,7 @@ pub choose_none : (h b : ℤ) → h ≡ pos 0 → choose h b ≡ b
 choose_none h b e = ap (λ (x : ℤ). choose x b) e
 
 -- the last entry and the others
-last_lacked : (es : List Entry) (n : ℕ) → Ascends es (suc n) → Lacks es n (entry_at es n).cell
+last_lacked : (es : List Entry) (n : ℕ) → Ascends es (suc n) → LacksAmong es n (entry_at es n).cell
 last_lacked es n a k l e = let up = a k n l (omega arith) in omega arith
 
 last_here : (es : List Entry) (n : ℕ) → lookup es (suc n) (entry_at es n).cell ≡ (entry_at es n).value

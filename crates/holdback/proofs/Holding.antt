@@ -4,7 +4,7 @@ use Rattle.std.proofs.lemmas.Int.{ints}
 use Rattle.haar.specs.Tiles.{cell_count}
 use Rattle.store.specs.declared.entry.Entry.{Entry}
 use Rattle.store.specs.Meaning.{Meaning, weight, filled, Put}
-use Rattle.store.specs.Table.{lookup, Stored}
+use Rattle.store.specs.Table.{lookup, StoredAmong}
 use Rattle.store.proofs.Counting.{filled_put, put_keeps}
 use Rattle.store.proofs.Tidy.{Tidy}
 use Rattle.holdback.specs.Over.{choose, over, fresh, held_over}
@@ -26,7 +26,7 @@ held_puts m m' es fs n k c v l t u same keeps here rest =
     record { bands = same; here = here; others = rest; room = omega (arith, ints) }
 
 -- a number held, for a cell that is held already or not
-pub hold_puts : (m : Meaning) (es fs : List Entry) (n k c : ℕ) (v : ℤ) → c < cell_count m.bands → Tidy es n → Tidy fs k → (v ≡ pos 0 → ⊥) → Stored es n c v fs k
+pub hold_puts : (m : Meaning) (es fs : List Entry) (n k c : ℕ) (v : ℤ) → c < cell_count m.bands → Tidy es n → Tidy fs k → (v ≡ pos 0 → ⊥) → StoredAmong es n c v fs k
     → Put (held_over es n m) c v (held_over fs k m)
 hold_puts m es fs n k c v inside t u z s =
     held_puts m m es fs n k c v inside t u refl refl
@@ -34,7 +34,7 @@ hold_puts m es fs n k c v inside t u z s =
     (λ d _ ne. ap (λ (h : ℤ). choose h (m.cells d)) (s.others d ne))
 
 -- a number written below, to a cell that is held no more
-pub pass_puts : (m m' : Meaning) (es fs : List Entry) (n k c : ℕ) (v : ℤ) → c < cell_count m.bands → Tidy es n → Tidy fs k → Stored es n c (pos 0) fs k → Put m c v m'
+pub pass_puts : (m m' : Meaning) (es fs : List Entry) (n k c : ℕ) (v : ℤ) → c < cell_count m.bands → Tidy es n → Tidy fs k → StoredAmong es n c (pos 0) fs k → Put m c v m'
     → Put (held_over es n m) c v (held_over fs k m')
 pass_puts m m' es fs n k c v inside t u s p =
     held_puts m m' es fs n k c v inside t u p.bands (put_keeps m m' c v inside p)

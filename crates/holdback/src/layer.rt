@@ -5,8 +5,7 @@ ghost use Rattle.holdback.specs.Laws.{layer_lawful};
 ghost use Rattle.holdback.specs.Layer.{layer_means, Goes, Untouched};
 
 use crate::held::{HoldBack, MOST};
-use haar::cells::cell_count;
-use store::fault::CellFault;
+use store::fault::{CellFault, check_cell};
 use store::interface::Store;
 
 impl<S: Store> Store for HoldBack<S> {
@@ -28,9 +27,7 @@ impl<S: Store> Store for HoldBack<S> {
         ensures writes { Writes (layer_means S.Store.means self.old) cell value result (layer_means S.Store.means self.new) }
         ensures goes { (value ≢ pos 0) → Goes cell self.old self.new }
     {
-        if cell >= cell_count(self.below.bands()) {
-            return Err(CellFault::Cell(cell));
-        }
+        check_cell(self.below.bands(), cell)?;
         if value == 0 {
             self.held.remove(cell);
             return self.below.write(cell, 0);

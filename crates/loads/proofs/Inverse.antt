@@ -1,4 +1,5 @@
 use Rattle.std.proofs.Common.{◌≡◌, ℕ, zero, suc, ◌+◌, ◌-◌, ◌*◌, ◌/◌, ◌^◌, ◌<◌, ◌≤◌, ◌≢◌, List, ◌++◌, length, get_or, take, drop, set, ℤ, pos, negsuc, ◌+ℤ◌, ◌-ℤ◌, neg_ℤ, sym, refl, ap, ◌∙◌, subst, inl, inr, mul_assoc, add-one, arith, pow_pos, pow_mono, pow-add}
+use native.Mathlib.Nat.{two-pow-succ}
 use lib.Signed.{quot_z}
 use Rattle.std.proofs.lemmas.Bool.Decides.{eqb_tells, leb_tells}
 use Rattle.std.proofs.lemmas.Int.{ints}
@@ -110,54 +111,57 @@ parted_joined h zs p l =
 pub length_joined : (h : ℕ) (zs : List ℤ) → length (joined h zs) ≡ length zs
 length_joined h zs = length-set (set zs 0 (get_or zs 0 (pos 0) +ℤ get_or zs h (pos 0))) h _ ∙ length-set zs 0 _
 
+-- the halves of 2^(m+1) numbers
+module _ (m : ℕ) (zs : List ℤ) (l : length zs ≡ 2 ^ suc m) where
+  pub left_length : length (take (2 ^ m) zs) ≡ 2 ^ m
+  left_length = length-take-le (2 ^ m) zs (omega (arith, two-pow-succ m))
+
+  pub right_length : length (drop (2 ^ m) zs) ≡ 2 ^ m
+  right_length = length-drop (2 ^ m) zs ∙ omega (arith, two-pow-succ m)
+
 pub length_haar : (m : ℕ) (zs : List ℤ) → length zs ≡ 2 ^ m → length (haar m zs) ≡ 2 ^ m
 length_haar zero zs l = l
 length_haar (suc m) zs l =
-    let p : 2 ^ suc m ≡ 2 ^ m * 2 = ap (λ (k : ℕ). 2 ^ k) (sym (add-one m)) ∙ pow-add 2 m 1 in
-    let a = length_haar m (take (2 ^ m) zs) (length-take-le (2 ^ m) zs (omega arith)) in
-    let b = length_haar m (drop (2 ^ m) zs) (length-drop (2 ^ m) zs ∙ omega arith) in
-    length_joined (2 ^ m) (haar m (take (2 ^ m) zs) ++ haar m (drop (2 ^ m) zs)) ∙ length-append (haar m (take (2 ^ m) zs)) (haar m (drop (2 ^ m) zs)) ∙ omega arith
+    let a = length_haar m (take (2 ^ m) zs) (left_length m zs l) in
+    let b = length_haar m (drop (2 ^ m) zs) (right_length m zs l) in
+    length_joined (2 ^ m) (haar m (take (2 ^ m) zs) ++ haar m (drop (2 ^ m) zs)) ∙ length-append (haar m (take (2 ^ m) zs)) (haar m (drop (2 ^ m) zs)) ∙ omega (arith, two-pow-succ m)
+
+-- the trees of the halves, before they are joined
+module _ (m : ℕ) (zs : List ℤ) (l : length zs ≡ 2 ^ suc m) where
+  pub low_length : length (haar m (take (2 ^ m) zs)) ≡ 2 ^ m
+  low_length = length_haar m (take (2 ^ m) zs) (left_length m zs l)
+
+  pub pair_inside : 2 ^ m < length (haar m (take (2 ^ m) zs) ++ haar m (drop (2 ^ m) zs))
+  pair_inside = omega (arith, low_length, length_haar m (drop (2 ^ m) zs) (right_length m zs l), length-append (haar m (take (2 ^ m) zs)) (haar m (drop (2 ^ m) zs)), pow_pos m)
+
+within_joined : (b h : ℕ) (zs : List ℤ) → h < length zs → Within b zs → Within (b * 2) (joined h zs)
+within_joined b h zs l w =
+    let n0 = w 0 (omega arith) in
+    let nh = w h l in
+    within_set (b * 2) h _ (set zs 0 _) (near_difference b _ _ n0 nh)
+    (within_set (b * 2) 0 _ zs (near_sum b _ _ n0 nh) (within_more b (b * 2) zs (omega arith) w))
 
 pub within_haar : (m b : ℕ) (zs : List ℤ) → length zs ≡ 2 ^ m → Within b zs → Within (b * 2 ^ m) (haar m zs)
 within_haar zero b zs l w = within_more b (b * 1) zs (omega arith) w
 within_haar (suc m) b zs l w =
-    let p : 2 ^ suc m ≡ 2 ^ m * 2 = ap (λ (k : ℕ). 2 ^ k) (sym (add-one m)) ∙ pow-add 2 m 1 in
-    let tl = length-take-le (2 ^ m) zs (omega arith) in
-    let dl : length (drop (2 ^ m) zs) ≡ 2 ^ m = length-drop (2 ^ m) zs ∙ omega arith in
-    let A = haar m (take (2 ^ m) zs) in
-    let B = haar m (drop (2 ^ m) zs) in
-    let la = length_haar m (take (2 ^ m) zs) tl in
-    let lb = length_haar m (drop (2 ^ m) zs) dl in
-    let wa = within_haar m b (take (2 ^ m) zs) tl (within_take b (2 ^ m) zs (omega arith) w) in
-    let wb = within_haar m b (drop (2 ^ m) zs) dl (within_drop b (2 ^ m) zs w) in
-    let w2 = within_append (b * 2 ^ m) A B wa wb in
-    let pp = pow_pos m in
-    let lab = length-append A B in
-    let n0 = w2 0 (omega arith) in
-    let nh = w2 (2 ^ m) (omega arith) in
-    let q : b * 2 ^ m * 2 ≡ b * 2 ^ suc m = mul_assoc b (2 ^ m) 2 ∙ ap (λ (x : ℕ). b * x) (sym p) in
-    let P : ℕ → Type 0 = λ d. Within d (joined (2 ^ m) (A ++ B)) in
+    let q : b * 2 ^ m * 2 ≡ b * 2 ^ suc m = mul_assoc b (2 ^ m) 2 ∙ ap (λ (x : ℕ). b * x) (omega (arith, two-pow-succ m)) in
+    let P : ℕ → Type 0 = λ d. Within d (haar (suc m) zs) in
     subst P q
-    (within_set (b * 2 ^ m * 2) (2 ^ m) _ (set (A ++ B) 0 _) (near_difference (b * 2 ^ m) _ _ n0 nh)
-    (within_set (b * 2 ^ m * 2) 0 _ (A ++ B) (near_sum (b * 2 ^ m) _ _ n0 nh) (within_more (b * 2 ^ m) (b * 2 ^ m * 2) (A ++ B) (omega arith) w2)))
+    (within_joined (b * 2 ^ m) (2 ^ m) _ (pair_inside m zs l)
+    (within_append (b * 2 ^ m) _ _ (within_haar m b (take (2 ^ m) zs) (left_length m zs l) (within_take b (2 ^ m) zs (omega (arith, two-pow-succ m)) w))
+    (within_haar m b (drop (2 ^ m) zs) (right_length m zs l) (within_drop b (2 ^ m) zs w))))
 
 pub back_haar : (m : ℕ) (zs : List ℤ) → length zs ≡ 2 ^ m → unhaar m (haar m zs) ≡ zs
 back_haar zero zs l = refl
 back_haar (suc m) zs l =
-    let p : 2 ^ suc m ≡ 2 ^ m * 2 = ap (λ (k : ℕ). 2 ^ k) (sym (add-one m)) ∙ pow-add 2 m 1 in
-    let tl = length-take-le (2 ^ m) zs (omega arith) in
-    let dl : length (drop (2 ^ m) zs) ≡ 2 ^ m = length-drop (2 ^ m) zs ∙ omega arith in
     let A = haar m (take (2 ^ m) zs) in
     let B = haar m (drop (2 ^ m) zs) in
-    let la = length_haar m (take (2 ^ m) zs) tl in
-    let lb = length_haar m (drop (2 ^ m) zs) dl in
-    let pp = pow_pos m in
-    let lab = length-append A B in
-    ap (λ (x : List ℤ). unhaar m (take (2 ^ m) x) ++ unhaar m (drop (2 ^ m) x)) (parted_joined (2 ^ m) (A ++ B) pp (omega arith))
+    let la = low_length m zs l in
+    ap (λ (x : List ℤ). unhaar m (take (2 ^ m) x) ++ unhaar m (drop (2 ^ m) x)) (parted_joined (2 ^ m) (A ++ B) (pow_pos m) (pair_inside m zs l))
     ∙ ap (λ (x : List ℤ). unhaar m x ++ unhaar m (drop (2 ^ m) (A ++ B))) (front (2 ^ m) A B la)
     ∙ ap (λ (x : List ℤ). unhaar m A ++ unhaar m x) (rear (2 ^ m) A B la)
-    ∙ ap (λ (x : List ℤ). x ++ unhaar m B) (back_haar m (take (2 ^ m) zs) tl)
-    ∙ ap (λ (x : List ℤ). take (2 ^ m) zs ++ x) (back_haar m (drop (2 ^ m) zs) dl)
+    ∙ ap (λ (x : List ℤ). x ++ unhaar m B) (back_haar m (take (2 ^ m) zs) (left_length m zs l))
+    ∙ ap (λ (x : List ℤ). take (2 ^ m) zs ++ x) (back_haar m (drop (2 ^ m) zs) (right_length m zs l))
     ∙ take-append-drop (2 ^ m) zs
 
 -- back within 2^61, whatever the numbers
@@ -177,14 +181,12 @@ within_parted b h zs l w =
 pub within_unhaar : (m b : ℕ) (zs : List ℤ) → length zs ≡ 2 ^ m → Within b zs → (length (unhaar m zs) ≡ 2 ^ m) × Within b (unhaar m zs)
 within_unhaar zero b zs l w = (l, w)
 within_unhaar (suc m) b zs l w =
-    let p : 2 ^ suc m ≡ 2 ^ m * 2 = ap (λ (k : ℕ). 2 ^ k) (sym (add-one m)) ∙ pow-add 2 m 1 in
-    let pp = pow_pos m in
     let ps = parted (2 ^ m) zs in
-    let lp = length_parted (2 ^ m) zs in
-    let wp = within_parted b (2 ^ m) zs (omega arith) w in
-    let x = within_unhaar m b (take (2 ^ m) ps) (length-take-le (2 ^ m) ps (omega arith)) (within_take b (2 ^ m) ps (omega arith) wp) in
-    let y = within_unhaar m b (drop (2 ^ m) ps) (length-drop (2 ^ m) ps ∙ omega arith) (within_drop b (2 ^ m) ps wp) in
-    (length-append (unhaar m (take (2 ^ m) ps)) (unhaar m (drop (2 ^ m) ps)) ∙ omega (arith, x.0, y.0), within_append b _ _ x.1 y.1)
+    let lp : length ps ≡ 2 ^ suc m = length_parted (2 ^ m) zs ∙ l in
+    let wp = within_parted b (2 ^ m) zs (omega (arith, two-pow-succ m, pow_pos m)) w in
+    let x = within_unhaar m b (take (2 ^ m) ps) (left_length m ps lp) (within_take b (2 ^ m) ps (omega (arith, two-pow-succ m)) wp) in
+    let y = within_unhaar m b (drop (2 ^ m) ps) (right_length m ps lp) (within_drop b (2 ^ m) ps wp) in
+    (length-append (unhaar m (take (2 ^ m) ps)) (unhaar m (drop (2 ^ m) ps)) ∙ omega (arith, x.0, y.0, two-pow-succ m), within_append b _ _ x.1 y.1)
 
 -- ---- the steps of the two recursions
 

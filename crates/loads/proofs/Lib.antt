@@ -1,3 +1,4 @@
+pub mod Machine
 pub mod Inverse
 pub mod Meeting
 pub mod Splits

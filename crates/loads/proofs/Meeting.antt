@@ -1,5 +1,5 @@
 -- Where the touched coefficients of a chunk stand: their tiles, and the coefficient of a cell.
-use Rattle.std.proofs.Common.{◌≡◌, ℕ, zero, suc, ◌+◌, ◌-◌, ◌*◌, ◌/◌, ◌%◌, ◌^◌, ◌<◌, ◌≤◌, min, max, sym, ap, ◌∙◌, subst, ⊎_elim, mul-le-mul_right, mod-lt, lt_of_mul-lt-mul_right, div-add-mod', div-one, sub-one, arith, pow_pos, pow_mono, pow-add, shr-shr, shr_lt}
+use Rattle.std.proofs.Common.{◌≡◌, ℕ, zero, suc, ◌+◌, ◌-◌, ◌*◌, ◌/◌, ◌%◌, ◌^◌, ◌<◌, ◌≤◌, ◌↔◌, min, max, sym, ap, ◌∙◌, subst, ⊎_elim, mul-le-mul_right, mod-lt, lt_of_mul-lt-mul_right, div-add-mod', div-one, sub-one, arith, pow_pos, pow_mono, pow-add, shr-shr, shr_lt}
 use Rattle.std.proofs.lemmas.Bool.{cases_lt, cases_eq}
 use Rattle.haar.specs.declared.coefficient.Coefficient.{Coefficient}
 use Rattle.haar.specs.declared.coefficient.Coefficient.TheVariants.{TileSum, Difference}
@@ -11,13 +11,13 @@ use Rattle.haar.proofs.Places.{number_at, before_most}
 use Rattle.haar.proofs.Ladder.{rising}
 use Rattle.haar.proofs.Count.{index_inside, whole_inside}
 
-pub sum_meets : (n m p t k l : ℕ) → l ≡ min (4 * t + 4) n → m ≤ n → p < 2 ^ (n - m) → t < bands_in_use n → k / 2 ^ (m - l) ≡ p / 2 ^ (l - m) → Meets n m p (TileSum t k)
-sum_meets n m p t k l e h b u o =
-    let o' : k / 2 ^ (m - min (4 * t + 4) n) ≡ p / 2 ^ (min (4 * t + 4) n - m) = subst (λ x. k / 2 ^ (m - x) ≡ p / 2 ^ (x - m)) e o in
-    record { inside = whole_inside n t k u (index_inside n m p _ k h (omega arith) b o'); touched = o' }
+pub sum_meets : (n m p t k l : ℕ) → l ≡ min (4 * t + 4) n → m ≤ n → p < 2 ^ (n - m) → t < bands_in_use n → (k / 2 ^ (m - l) ≡ p / 2 ^ (l - m)) ↔ Meets n m p (TileSum t k)
+sum_meets n m p t k l e h b u =
+    subst (λ x. (k / 2 ^ (m - x) ≡ p / 2 ^ (x - m)) ↔ Meets n m p (TileSum t k)) (sym e)
+    (λ o. record { inside = whole_inside n t k u (index_inside n m p _ k h (omega arith) b o); touched = o }, λ me. me.touched)
 
-pub diff_meets : (n m p j k : ℕ) → m ≤ n → p < 2 ^ (n - m) → 1 ≤ j → j ≤ n → k / 2 ^ (m - j) ≡ p / 2 ^ (j - m) → Meets n m p (Difference j k)
-diff_meets n m p j k h b a l o = record { inside = (a, l, index_inside n m p j k h l b o); touched = o }
+pub diff_meets : (n m p j k : ℕ) → m ≤ n → p < 2 ^ (n - m) → 1 ≤ j → j ≤ n → (k / 2 ^ (m - j) ≡ p / 2 ^ (j - m)) ↔ Meets n m p (Difference j k)
+diff_meets n m p j k h b a l = (λ o. record { inside = (a, l, index_inside n m p j k h l b o); touched = o }, λ me. me.touched)
 
 -- an overlap, seen from a level L above
 climb : (m p j k L : ℕ) → j ≤ L → k / 2 ^ (m - j) ≡ p / 2 ^ (j - m) → k / 2 ^ (L - j) / 2 ^ (m - L) ≡ p / 2 ^ (L - m)

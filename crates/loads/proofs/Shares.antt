@@ -1,10 +1,10 @@
 -- What the transformed buffer holds, and what of it is a coefficient's share.
-use Rattle.std.proofs.Common.{◌≡◌, ℕ, zero, suc, ◌+◌, ◌-◌, ◌*◌, ◌/◌, ◌%◌, ◌^◌, ◌<◌, ◌≤◌, List, ◌++◌, length, get_or, take, drop, set, ℤ, pos, ◌+ℤ◌, ◌-ℤ◌, sym, ap, ◌∙◌, subst, ap₂, ⊎_elim, add-zero, mul-le-mul_right, add-mul, mul-suc, sub-one, arith, pow_pos, pow_mono, pow-add, shr_lt, w64, SFits, to_z, of_z, rules}
+use Rattle.std.proofs.Common.{◌≡◌, ℕ, zero, suc, ◌+◌, ◌-◌, ◌*◌, ◌/◌, ◌%◌, ◌^◌, ◌<◌, ◌≤◌, List, ◌++◌, length, get_or, take, drop, set, ℤ, pos, ◌+ℤ◌, ◌-ℤ◌, sym, ap, ◌∙◌, subst, ap₂, ⊎_elim, add-zero, mul-le-mul_right, add-mul, mul-suc, sub-one, arith, pow_pos, pow_mono, pow-add, shr_lt}
 use native.Mathlib.Nat.{two-pow-succ}
 use lib.Signed.{quot_z}
-use Rattle.std.proofs.lemmas.List.{length-take-le, length-drop, length-append, get_or-take, get_or-drop, get_or_append_left, get_or-append_right, get_or-set_other, get_or_past}
+use Rattle.std.proofs.lemmas.List.{get_or-take, get_or-drop, get_or_append_left, get_or-append_right, get_or-set_other, get_or_past}
 use Rattle.std.proofs.lemmas.Nat.{one_shl}
-use Rattle.std.proofs.lemmas.Int.{ints, to_z-of_z}
+use Rattle.std.proofs.lemmas.Int.{ints}
 use Rattle.std.proofs.lemmas.Bool.{cases_lt}
 use Rattle.haar.specs.Tree.{plain_sum, S, D}
 use Rattle.loads.specs.Transform.{haar, unhaar, joined, Near}
@@ -13,7 +13,7 @@ use Rattle.haar.proofs.Sums.{halves, D_suc}
 use Rattle.haar.proofs.Numbers.{same_pow}
 use Rattle.haar.proofs.Split.{shift_suc}
 use Rattle.haar.proofs.Load.{shifted_S, shifted_D, down}
-use Rattle.loads.proofs.Inverse.{joined_first, joined_other, length_haar, twice_half}
+use Rattle.loads.proofs.Inverse.{joined_first, joined_other, left_length, right_length, length_haar, low_length, pair_inside, twice_half}
 
 -- another place than 0 and h
 joined_else : (h i : ℕ) (zs : List ℤ) → (i ≡ 0 → ⊥) → (i ≡ h → ⊥) → get_or (joined h zs) i (pos 0) ≡ get_or zs i (pos 0)
@@ -26,12 +26,6 @@ module _ (m : ℕ) (zs : List ℤ) (l : length zs ≡ 2 ^ suc m) where
 
   right : (i : ℕ) → i < 2 ^ m → alone zs (1 * 2 ^ m + i) ≡ alone (drop (2 ^ m) zs) i
   right i h = ap (alone zs) (omega arith) ∙ sym (get_or-drop (2 ^ m) zs i (pos 0))
-
-  left_length : length (take (2 ^ m) zs) ≡ 2 ^ m
-  left_length = length-take-le (2 ^ m) zs (omega (arith, two-pow-succ m))
-
-  right_length : length (drop (2 ^ m) zs) ≡ 2 ^ m
-  right_length = length-drop (2 ^ m) zs ∙ omega (arith, two-pow-succ m)
 
 -- the sum at 0, and the difference (j+1,k) at k * 2^(j+1) + 2^j
 pub record Tree (m : ℕ) (zs : List ℤ) : Type 0 where
@@ -46,20 +40,13 @@ module _ (m : ℕ) (zs : List ℤ) (l : length zs ≡ 2 ^ suc m) (low : Tree m (
   both : List ℤ
   both = haar m (take (2 ^ m) zs) ++ haar m (drop (2 ^ m) zs)
 
-  low_length : length (haar m (take (2 ^ m) zs)) ≡ 2 ^ m
-  low_length = length_haar m _ (left_length m zs l)
-
-  both_length : length both ≡ 2 ^ m + 2 ^ m
-  unfolding both
-  both_length = length-append _ _ ∙ ap₂ ◌+◌ low_length (length_haar m _ (right_length m zs l))
-
   low_at : (i : ℕ) → i < 2 ^ m → get_or both i (pos 0) ≡ get_or (haar m (take (2 ^ m) zs)) i (pos 0)
   unfolding both
-  low_at i h = get_or_append_left _ _ (pos 0) i (omega (arith, low_length))
+  low_at i h = get_or_append_left _ _ (pos 0) i (omega (arith, low_length m zs l))
 
   high_at : (i : ℕ) → get_or both (2 ^ m + i) (pos 0) ≡ get_or (haar m (drop (2 ^ m) zs)) i (pos 0)
   unfolding both
-  high_at i = get_or-append_right _ _ (2 ^ m) (2 ^ m + i) (pos 0) low_length (omega arith) ∙ ap (λ x. get_or (haar m (drop (2 ^ m) zs)) x (pos 0)) (omega arith)
+  high_at i = get_or-append_right _ _ (2 ^ m) (2 ^ m + i) (pos 0) (low_length m zs l) (omega arith) ∙ ap (λ x. get_or (haar m (drop (2 ^ m) zs)) x (pos 0)) (omega arith)
 
   first : get_or both 0 (pos 0) ≡ S (alone zs) m 0
   first = low_at 0 (pow_pos m) ∙ low.sum ∙ sym (shifted_S m 0 m 0 (alone zs) _ (omega arith) (pow_pos (m - m)) (left m zs l)) ∙ ap (S (alone zs) m) (omega arith)
@@ -70,7 +57,8 @@ module _ (m : ℕ) (zs : List ℤ) (l : length zs ≡ 2 ^ suc m) (low : Tree m (
       ∙ ap (S (alone zs) m) (omega (arith, same_pow (m - m) 0 (omega arith)))
 
   inside : 2 ^ m < length both
-  inside = omega (arith, both_length, pow_pos m)
+  unfolding both
+  inside = pair_inside m zs l
 
   sum_up : get_or (joined (2 ^ m) both) 0 (pos 0) ≡ S (alone zs) (suc m) 0
   sum_up = joined_first (2 ^ m) both (pow_pos m) inside ∙ ap₂ ◌+ℤ◌ first second ∙ halves (alone zs) m 0
@@ -213,17 +201,6 @@ module _ (v : ℕ → ℤ) (level index : ℕ) where
       let z : suc r - 1 + 1 ≡ suc r = omega arith in
       let y = turned r h in
       ap₂ (λ a b. quot_z (a -ℤ b) (pos 2)) (e ∙ ap (S v (suc r)) y) (f ∙ ap (λ x. D v x (index / 2 ^ (x - level))) z ∙ ap (D v (suc r)) y) ∙ step_right v r _ g ∙ ap (λ x. S v x (index / 2 ^ (suc r - 1 - level))) (sym (sub-one (suc r)))
-
--- a sum and a difference of a chunk's tree, added and halved by the machine
-near_fits : (z : ℤ) → Near (2 ^ 62) z → SFits w64 z
-near_fits z h = record { sfits = grind (arith, ints) }
-
-pub pair_fits : (s d : ℤ) → Near (2 ^ 43) s → Near (2 ^ 61) d → SFits w64 (s +ℤ d) × SFits w64 (s -ℤ d)
-pair_fits s d a b =
-    (near_fits _ (omega (arith, ints), omega (arith, ints)), near_fits _ (omega (arith, ints), omega (arith, ints)))
-
-pub halved : (z : ℤ) → SFits w64 z → to_z w64 (of_z w64 (quot_z (to_z w64 (of_z w64 z)) (pos 2))) ≡ quot_z z (pos 2)
-halved z f = let q : SFits w64 (quot_z z (pos 2)) = search rules in simp to_z-of_z
 
 -- an index below a level, seen from a level above
 pub index_up : (chunk at level index : ℕ) → level ≤ at → at ≤ chunk → index < 2 ^ (chunk - level) → index / 2 ^ (at - level) < 2 ^ (chunk - at)

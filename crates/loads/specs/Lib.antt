@@ -1,6 +1,7 @@
 pub mod Reach
 pub mod Transform
 pub mod Share
+pub mod Tree
 pub mod Loads
 pub mod Adds
 pub mod Addition

@@ -1,10 +1,16 @@
 -- A chunk in a tree, and the touched coefficients in rising cell number.
+--   at_reach r R    a relation R of bands, size, level and index, at those of the reach r
+--   Reaches r s     the chunk of the reach r touches the coefficient s
 --   Found           the touched coefficient of the lowest cell from `from` on
 --   Past            there is none
 use Rattle.std.specs.Prelude.{◌≡◌, ℕ, ◌+◌, ◌-◌, ◌*◌, ◌/◌, ◌^◌, ◌<◌, ◌≤◌}
 use Rattle.haar.specs.declared.coefficient.Coefficient.{Coefficient}
 use Rattle.haar.specs.Tiles.{band, tile, slot, tiles_before, cell_number, Inside}
 use Rattle.haar.specs.Load.{Touched}
+use Rattle.loads.specs.declared.reach.Reach.{Reach}
+
+abbrev pub at_reach : {X : Type 1} → Reach → (ℕ → ℕ → ℕ → ℕ → X) → X
+at_reach r R = R r.bands r.size r.level r.index
 
 -- slot `at` of tile (t,k) is the coefficient's
 pub record Sits (s : Coefficient) (t k at : ℕ) : Type 0 where
@@ -21,6 +27,9 @@ pub record Spans (T m p t start end : ℕ) : Type 0 where
 pub record Meets (n m p : ℕ) (s : Coefficient) : Type 0 where
   pub inside : Inside n s
   pub touched : Touched n m p s
+
+abbrev pub Reaches : Reach → Coefficient → Type 0
+Reaches r s = Meets r.size r.level r.index s
 
 pub record Found (T n m p from : ℕ) (s : Coefficient) (cell : ℕ) : Type 0 where
   pub meets : Meets n m p s

@@ -1,38 +1,44 @@
 // Growing a warehouse by one level.
 ghost use Rattle.std.specs.Prelude.{◌≡◌, ℕ, ◌*◌, ◌<◌, ◌≤◌, cond, Some, None, pos, ◌≤ℤ◌};
 ghost use Rattle.warehouse.specs.View.{known};
-ghost use Rattle.loads.specs.Growing.{total_cell, top_cell, tile_cell, fills, newly, Topped, Grows, Growth};
+ghost use Rattle.loads.specs.Growing.{total_cell, top_cell, tile_cell, lowest_written, fills, newly, Topped, Grows, Growth};
 
-use crate::cells::{is_small, number_in, put, starts};
+use crate::cells::{number_in, put, starts};
 use haar::cells::{difference_cell, sum_cell};
 use store::interface::Store;
 use warehouse::fault::{Asked, Fault, Refusal};
-use warehouse::record::Warehouse;
+use warehouse::numbers::answered;
+use warehouse::record::{Warehouse, is_small};
 
-// The cells of a growth: where the total stands, where it comes on top, and the tile that comes in use.
-#[derive(Clone, Copy)]
-struct GrowthCells {
+// A store that grows, and the cells of its growth: where the total stands, where it comes on top, and the tile that comes in use.
+#[derive(Drop)]
+struct GrowthCells<'a, S: Store> {
+    store: &'a mut S,
     bands: u8,
     size: u8,
     total: u32,
     top: u32,
     tile: Option<u32>,
-    ghost few: { bands ≤ 5 },
+    ghost whole: { (S.means store.now).bands ≡ bands },
     ghost below: { size < 4 * bands },
     ghost stands: { total ≡ total_cell bands size },
     ghost over: { top ≡ top_cell bands size },
     ghost comes: { tile ≡ cond (fills size) (Some (tile_cell bands size)) None },
 }
 
-impl GrowthCells {
-    fn of(bands: u8, size: u8) -> GrowthCells
-        requires { (bands ≤ 5) × (size < 4 * bands) }
-        ensures { (result.bands ≡ bands) × (result.size ≡ size) }
+impl<'a, S: Store> GrowthCells<'a, S> {
+    fn of(store: &'a mut S, size: u8) -> GrowthCells<'a, S>
+        requires { size < 4 * (S.means store.old).bands }
+        ensures same_store { result.store.ghost_name ≡ store.entry.ghost_name }
+        ensures kept { result.store.now ≡ store.old }
+        ensures size { result.size ≡ size }
     {
+        let bands = store.bands();
         let total = sum_cell(bands, size, 0).unwrap();
         let top = difference_cell(bands, size + 1, 0).unwrap();
         let first = sum_cell(bands, size + 1, 0).unwrap();
         GrowthCells {
+            store,
             bands,
             size,
             total,
@@ -41,29 +47,42 @@ impl GrowthCells {
         }
     }
 
-    // How many of the cells to write go from zero to nonzero.
-    fn newly_filled<S: Store>(self, store: &S, total: i64) -> u32
-        requires { (S.means store.now).bands ≡ self.bands }
-        ensures { result ≡ newly self.bands self.size total (S.means store.now).cells }
+    // The total that comes on top.
+    fn read_total(&self) -> i64
+        ensures { result ≡ (S.means self.now.store.now).cells (total_cell self.now.bands self.now.size) }
     {
-        let top = starts(number_in(store, self.top), total);
+        number_in(self.store, self.total)
+    }
+
+    // The lower of the cells to write.
+    fn lowest(&self) -> u32
+        ensures { result ≡ lowest_written self.now.bands self.now.size }
+    {
+        self.tile.unwrap_or(self.top)
+    }
+
+    // How many of the cells to write go from zero to nonzero.
+    fn newly_filled(&self, total: i64) -> u32
+        ensures { result ≡ newly self.now.bands self.now.size total (S.means self.now.store.now).cells }
+    {
+        let top = starts(number_in(self.store, self.top), total);
         // by match: for map_or the proof did not close that the closure's cell is the store's
         match self.tile {
-            Some(tile) => top + starts(number_in(store, tile), total),
+            Some(tile) => top + starts(number_in(self.store, tile), total),
             None => top,
         }
     }
 
     // The total into its cells, the lower one first.
-    fn write<S: Store>(self, store: &mut S, total: i64)
-        requires bands { (S.means store.old).bands ≡ self.bands }
-        requires room { pos (newly self.bands self.size total (S.means store.old).cells) ≤ℤ (S.means store.old).room }
-        ensures { Topped self.size total (S.means store.old) (S.means store.new) }
+    fn write(&mut self, total: i64)
+        requires { pos (newly self.old.bands self.old.size total (S.means self.old.store.now).cells) ≤ℤ (S.means self.old.store.now).room }
+        ensures same_store { self.new.store.ghost_name ≡ self.old.store.ghost_name }
+        ensures topped { Topped self.old.size total (S.means self.old.store.now) (S.means self.new.store.now) }
     {
         if let Some(tile) = self.tile {
-            put(store, tile, total);
+            put(self.store, tile, total);
         }
-        put(store, self.top, total);
+        put(self.store, self.top, total);
     }
 }
 
@@ -76,16 +95,16 @@ fn raise<S: Store>(warehouse: &mut Warehouse<S>) -> Result<u8, Fault>
     if size >= 4 * bands {
         return Err(Fault::Top);
     }
-    let cells = GrowthCells::of(bands, size);
-    let total = number_in(&warehouse.store, cells.total);
+    let mut cells = GrowthCells::of(&mut warehouse.store, size);
+    let total = cells.read_total();
     if !is_small(total) {
-        return Err(Fault::Large(cells.tile.unwrap_or(cells.top)));
+        return Err(Fault::Large(cells.lowest()));
     }
-    let more = cells.newly_filled(&warehouse.store, total);
-    if !warehouse.store.fits(more) {
+    let more = cells.newly_filled(total);
+    if !cells.store.fits(more) {
         return Err(Fault::Full);
     }
-    cells.write(&mut warehouse.store, total);
+    cells.write(total);
     warehouse.asked = size + 1;
     Ok(size + 1)
 }
@@ -95,6 +114,5 @@ pub fn grow<S: Store>(warehouse: &mut Warehouse<S>) -> Result<u8, Refusal>
     ensures { Growth (known S.means warehouse.old) result (known S.means warehouse.new) }
 {
     let size = warehouse.size();
-    let grown = raise(warehouse).map_err(|fault| (fault, Asked::Size(size)))?;
-    Ok(grown)
+    answered(raise(warehouse), Asked::Size(size))
 }

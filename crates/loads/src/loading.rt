@@ -1,33 +1,44 @@
 // Beginning, filling, finishing and giving up a load.
-ghost use Rattle.std.specs.Prelude.{◌≡◌, ℕ, ◌^◌, ◌≤◌};
+ghost use Rattle.std.specs.Prelude.{◌≡◌, ℕ, ◌^◌, ◌<◌, ◌≤◌, Err};
 ghost use Rattle.warehouse.specs.View.{known};
-ghost use Rattle.loads.specs.Opening.{Returned, Begins, Takes, Finished, Finishes};
+ghost use Rattle.warehouse.specs.declared.fault.Fault.TheVariants.{Level, Domain};
+ghost use Rattle.loads.specs.Addition.{Lies};
+ghost use Rattle.loads.specs.Opening.{IsOpen, Returned, Begins, Takes, Finished, Finishes};
 
 use crate::open::{OpenLoad, RefusedLoad};
 use crate::values::add_values;
 use store::interface::Store;
 use warehouse::fault::{Asked, Fault, Refusal};
+use warehouse::numbers::answered;
 use warehouse::record::Warehouse;
 
-// A load of 2^level minutes, beside the warehouse.
-pub fn begin<S: Store>(warehouse: &Warehouse<S>, level: u8, index: u32) -> Result<OpenLoad, Refusal>
-    ensures { Begins (known S.means warehouse.now).size level index result }
+// The checks of a beginning in their order.
+fn begun<S: Store>(warehouse: &Warehouse<S>, level: u8, index: u32) -> Result<OpenLoad, Fault>
+    ensures level { 12 < level → result ≡ Err Level }
+    ensures domain { level ≤ 12 → (Lies (known S.means warehouse.now).size level index → ⊥) → result ≡ Err Domain }
+    ensures begun { level ≤ 12 → Lies (known S.means warehouse.now).size level index → IsOpen result level index 0 }
 {
-    let refusal = |fault| Refusal {
-        fault,
-        asked: Asked::Interval(level, index),
-    };
     if level > 12 {
-        return Err(refusal(Fault::Level));
+        return Err(Fault::Level);
     }
     if !warehouse.has(level, index) {
-        return Err(refusal(Fault::Domain));
+        return Err(Fault::Domain);
     }
     Ok(OpenLoad {
         level,
         index,
         taken: 0,
     })
+}
+
+// A load of 2^level minutes, beside the warehouse.
+pub fn begin<S: Store>(warehouse: &Warehouse<S>, level: u8, index: u32) -> Result<OpenLoad, Refusal>
+    ensures { Begins (known S.means warehouse.now).size level index result }
+{
+    answered(
+        begun(warehouse, level, index),
+        Asked::Interval(level, index),
+    )
 }
 
 impl OpenLoad {

@@ -5,6 +5,7 @@ ghost use Rattle.loads.specs.Addition.{AddsPoint};
 use crate::values::add_values;
 use store::interface::Store;
 use warehouse::fault::{Asked, Refusal};
+use warehouse::numbers::answered;
 use warehouse::record::Warehouse;
 
 // A load of level 0: the count of cells written, or why nothing was.
@@ -15,9 +16,8 @@ pub fn add_point<S: Store>(
 ) -> Result<u32, Refusal>
     ensures { AddsPoint (known S.means warehouse.old) minute value result (known S.means warehouse.new) }
 {
-    let written = add_values(warehouse, 0, minute, &mut [value]).map_err(|fault| (
-        fault,
+    answered(
+        add_values(warehouse, 0, minute, &mut [value]),
         Asked::Minute(minute),
-    ))?;
-    Ok(written)
+    )
 }

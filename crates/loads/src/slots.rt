@@ -1,17 +1,10 @@
 // The slots of a tile, and which of them a chunk touches.
-ghost use Rattle.std.specs.Prelude.{◌≡◌, ℕ, ◌+◌, ◌-◌, ◌*◌, ◌/◌, ◌^◌, ◌<◌, ◌≤◌, true, false, ◌≢◌};
-ghost use Rattle.haar.specs.Count.{bands_in_use};
-ghost use Rattle.loads.specs.Reach.{Sits, Meets};
+ghost use Rattle.std.specs.Prelude.{◌≡◌, ℕ, ◌+◌, ◌-◌, ◌*◌, ◌/◌, ◌^◌, ◌<◌, ◌≤◌, ◌↔◌, IsTrue};
+ghost use Rattle.loads.specs.Reach.{Sits, Reaches};
 
 use crate::reach::Reach;
 use haar::coefficient::Coefficient;
-
-pub(crate) fn bands_in_use(size: u8) -> u8
-    requires { size ≤ 20 }
-    ensures { result ≡ bands_in_use size }
-{
-    size.div_ceil(4).max(1)
-}
+use haar::written::bands_in_use;
 
 pub(crate) fn in_slot(band: u8, tile: u32, slot: u32) -> Coefficient
     requires { (band ≤ 4) × ((tile < 2 ^ 20) × (slot < 16)) }
@@ -30,15 +23,13 @@ pub(crate) fn in_slot(band: u8, tile: u32, slot: u32) -> Coefficient
 // the interval (level, index) and the chunk overlap
 fn overlaps(reach: Reach, level: u8, index: u32) -> bool
     requires { level ≤ 20 }
-    ensures yes { result ≡ true → index / 2 ^ (reach.level - level) ≡ reach.index / 2 ^ (level - reach.level) }
-    ensures none { result ≡ false → index / 2 ^ (reach.level - level) ≢ reach.index / 2 ^ (level - reach.level) }
+    ensures { IsTrue result ↔ (index / 2 ^ (reach.level - level) ≡ reach.index / 2 ^ (level - reach.level)) }
 {
     index >> reach.level.saturating_sub(level) == reach.index >> level.saturating_sub(reach.level)
 }
 
 pub(crate) fn meets(reach: Reach, coefficient: Coefficient) -> bool
-    ensures yes { result ≡ true → Meets reach.size reach.level reach.index coefficient }
-    ensures none { result ≡ false → Meets reach.size reach.level reach.index coefficient → ⊥ }
+    ensures { IsTrue result ↔ Reaches reach coefficient }
 {
     match coefficient {
         Coefficient::TileSum(band, tile) => {

@@ -28,7 +28,8 @@ fn part(numbers: &mut [i64], half: usize)
     numbers[half] = (s - d) / 2;
 }
 
-pub(crate) fn transform(numbers: &mut [i64], m: u8)
+// The length and the level stay apart, here and on the way back: a struct of both would be made anew at each half.
+fn transform(numbers: &mut [i64], m: u8)
     requires { (length numbers.old ≡ 2 ^ m) × ((m ≤ 12) × (Within (2 ^ 31) numbers.old)) }
     ensures { numbers.new ≡ haar m numbers.old }
 {
@@ -59,43 +60,43 @@ fn restore(numbers: &mut [i64], m: u8)
 // A caller's buffer while it holds the tree of a chunk's values; dropped, it holds the values again.
 pub struct Transformed<'a> {
     pub numbers: &'a mut [i64],
-    pub level: u8,
-    ghost many: { length numbers.now ≡ 2 ^ level },
+    pub reach: Reach,
+    ghost many: { length numbers.now ≡ 2 ^ reach.level },
     ghost small: { Within (2 ^ 61) numbers.now },
 }
 
 impl<'a> Transformed<'a> {
-    pub(crate) fn of(values: &'a mut [i64], level: u8) -> Transformed<'a>
-        requires { (length values.old ≡ 2 ^ level) × ((level ≤ 12) × (Within (2 ^ 31) values.old)) }
+    pub(crate) fn of(values: &'a mut [i64], reach: Reach) -> Transformed<'a>
+        requires { (length values.old ≡ 2 ^ reach.level) × (Within (2 ^ 31) values.old) }
         ensures same_buffer { result.numbers.ghost_name ≡ values.entry.ghost_name }
-        ensures level { result.level ≡ level }
-        ensures tree { Ready level result.numbers.now }
-        ensures back { unhaar result.level result.numbers.now ≡ values.old }
+        ensures reach { result.reach ≡ reach }
+        ensures tree { Ready result.reach.level result.numbers.now }
+        ensures back { unhaar result.reach.level result.numbers.now ≡ values.old }
     {
-        transform(values, level);
+        transform(values, reach.level);
         Transformed {
             numbers: values,
-            level,
+            reach,
         }
     }
 
-    // What the buffer holds, as the tree of the chunk that has this reach.
-    pub(crate) fn tree(&self, reach: Reach) -> ChunkTree<'_>
-        requires { Ready reach.level self.now.numbers.now }
-        ensures { (result.reach ≡ reach) × (result.numbers.now ≡ self.now.numbers.now) }
+    // What the buffer holds, as the chunk's tree.
+    pub(crate) fn tree(&self) -> ChunkTree<'_>
+        requires { Ready self.now.reach.level self.now.numbers.now }
+        ensures { (result.reach ≡ self.now.reach) × (result.numbers.now ≡ self.now.numbers.now) }
     {
         ChunkTree {
             numbers: &self.numbers[..],
-            reach,
+            reach: self.reach,
         }
     }
 }
 
 impl Drop for Transformed<'_> {
     fn drop(self)
-        ensures { self.exit.0.now ≡ unhaar self.entry.level self.entry.numbers.now }
+        ensures { self.exit.0.now ≡ unhaar self.entry.reach.level self.entry.numbers.now }
     {
-        let Transformed { numbers, level } = self;
-        restore(numbers, level);
+        let Transformed { numbers, reach } = self;
+        restore(numbers, reach.level);
     }
 }

@@ -1,10 +1,11 @@
 // Adding a chunk's values: the checks in their order, and the writing.
-ghost use Rattle.std.specs.Prelude.{◌≡◌, ℕ, ◌-◌, ◌*◌, ◌^◌, ◌<◌, ◌≤◌, true, false, length, pos, Some, None, slice_index_or};
+ghost use Rattle.std.specs.Prelude.{◌≡◌, ℕ, ◌-◌, ◌*◌, ◌^◌, ◌<◌, ◌≤◌, true, false, length, pos, MatchOption, slice_index_or};
 ghost use Rattle.warehouse.specs.View.{known};
 ghost use Rattle.loads.specs.Addition.{Limit, Limited, Additions};
 
-use crate::chunk::add_chunk;
+use crate::chunk::Load;
 use crate::reach::Reach;
+use crate::transform::Transformed;
 use store::fault::CellFault;
 use store::interface::Store;
 use warehouse::fault::Fault;
@@ -13,14 +14,15 @@ use warehouse::record::Warehouse;
 // the lowest place of a value outside its limits
 fn first_outside(values: &[i64]) -> Option<u32>
     requires { length values.now ≤ 4096 }
-    ensures { elim result [ Some i ↦ (i < length values.now) × (Limit (slice_index_or values.now i (pos 0)) → ⊥) × Limited i values.now | None ↦ Limited (length values.now) values.now ] }
+    ensures { MatchOption result (Limited (length values.now) values.now) (λ i. (i < length values.now) × (Limit (slice_index_or values.now i (pos 0)) → ⊥) × Limited i values.now) }
 {
     let place = values
         .iter()
         .position(|value| i32::try_from(*value).is_err())?;
-    Some(place as u32)
+    u32::try_from(place).ok()
 }
 
+// Level and index stay apart: `finished` takes them out of its open load, so that only `add_point` would make a struct of them.
 pub(crate) fn add_values<S: Store>(
     warehouse: &mut Warehouse<S>,
     level: u8,
@@ -48,5 +50,10 @@ pub(crate) fn add_values<S: Store>(
         level,
         index,
     };
-    add_chunk(&mut warehouse.store, reach, values)
+    let guard = Transformed::of(values, reach);
+    let mut load = Load {
+        store: &mut warehouse.store,
+        chunk: guard.tree(),
+    };
+    load.add()
 }

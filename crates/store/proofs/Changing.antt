@@ -4,7 +4,7 @@ use Rattle.std.proofs.lemmas.List.{get_or-set_same, get_or-set_other}
 use Rattle.std.proofs.lemmas.Bool.{cases_eq}
 use Rattle.store.specs.declared.entry.Entry.{Entry}
 use Rattle.store.specs.Meaning.{weight}
-use Rattle.store.specs.Table.{entry_at, Ascends, lookup, Stored}
+use Rattle.store.specs.Table.{entry_at, Ascends, lookup, StoredAmong}
 use Rattle.store.proofs.Counting.{weight_one}
 use Rattle.store.proofs.Lookups.{hit, carried}
 use Rattle.store.proofs.Tidy.{Tidy}
@@ -36,7 +36,7 @@ module _ (es : List Entry) (at : ℕ) (new : Entry) (l : at < length es) (same :
       (λ k h. (k, h.used, other k (apart k h.is)))
       (λ k h. (k, h.used, sym (other k (apart k (sym (cells_same k) ∙ h.is)))))
 
-  pub stored_set : (n : ℕ) (v : ℤ) → new.value ≡ v → (v ≡ pos 0 → ⊥) → at < n → Tidy es n → Stored es n (entry_at es at).cell v (set es at new) n
+  pub stored_set : (n : ℕ) (v : ℤ) → new.value ≡ v → (v ≡ pos 0 → ⊥) → at < n → Tidy es n → StoredAmong es n (entry_at es at).cell v (set es at new) n
   stored_set n v e z u t =
       let is = hit (set es at new) n _ at (ascends_set n t.ascends) (record { used = u; is = ap (λ (x : Entry). x.cell) here ∙ same })
       ∙ ap (λ (x : Entry). x.value) here ∙ e in

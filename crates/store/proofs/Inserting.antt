@@ -5,7 +5,7 @@ use Rattle.std.proofs.lemmas.Bool.{cases_lt, cases_order}
 use Rattle.std.proofs.lemmas.List.{get_or-set_same, get_or-set_other}
 use Rattle.store.specs.declared.entry.Entry.{Entry}
 use Rattle.store.specs.Meaning.{weight}
-use Rattle.store.specs.Table.{entry_at, Ascends, Nonzero, Lacks, Held, Gap, Stored, lookup}
+use Rattle.store.specs.Table.{entry_at, Ascends, Nonzero, LacksAmong, HeldAmong, GapAmong, StoredAmong, lookup}
 use Rattle.store.proofs.Counting.{weight_one}
 use Rattle.store.proofs.Lookups.{hit, miss, gap_lacks, carried}
 use Rattle.store.proofs.Tidy.{Tidy}
@@ -59,7 +59,7 @@ module _ (es fs : List Entry) (at n m : ℕ) (new : Entry) (more : m ≡ n + 1) 
         | inr (inr u) ↦ inr (k - 1, omega arith, sym (moved k u l))
       ]
 
-  pub ascends_more : Ascends es n → Gap es n new.cell at → Ascends fs m
+  pub ascends_more : Ascends es n → GapAmong es n new.cell at → Ascends fs m
   ascends_more a g j k jk km =
       elim (cases_order k at) [
         | inl q ↦
@@ -133,19 +133,19 @@ module _ (es fs : List Entry) (at n m : ℕ) (new : Entry) (more : m ≡ n + 1) 
         | inr g ↦ g
       ])
 
-  pub stored_more : (v : ℤ) → new.value ≡ v → (v ≡ pos 0 → ⊥) → Ascends es n → Gap es n new.cell at → Stored es n new.cell v fs m
+  pub stored_more : (v : ℤ) → new.value ≡ v → (v ≡ pos 0 → ⊥) → Ascends es n → GapAmong es n new.cell at → StoredAmong es n new.cell v fs m
   stored_more v e z a g =
       let b = ascends_more a g in
       let none = ap weight (miss es n new.cell (gap_lacks es n _ at g)) in
       let is = hit fs m _ at b (record { used = omega arith; is = ap (λ (x : Entry). x.cell) i.here }) ∙ ap (λ (x : Entry). x.value) i.here ∙ e in
       record { here = is; others = λ c ne. others a b c ne; used = omega (arith, weight_one v z) }
 
-  pub stored_less : Tidy fs m → Stored fs m new.cell (pos 0) es n
+  pub stored_less : Tidy fs m → StoredAmong fs m new.cell (pos 0) es n
   stored_less t =
       let a = ascends_less t.ascends in
-      let held : Held fs m new.cell at = record { used = omega arith; is = ap (λ (x : Entry). x.cell) i.here } in
+      let held : HeldAmong fs m new.cell at = record { used = omega arith; is = ap (λ (x : Entry). x.cell) i.here } in
       let one = ap weight (hit fs m _ at t.ascends held) ∙ weight_one _ (t.nonzero at (omega arith)) in
-      let lacks : Lacks es n new.cell = λ k l q. elim (cases_lt k at) [
+      let lacks : LacksAmong es n new.cell = λ k l q. elim (cases_lt k at) [
         | inl u ↦ let up = t.ascends k at u (omega arith) in let ck = ap (λ (x : Entry). x.cell) (i.before k u) in let c = held.is in omega arith
         | inr u ↦ let up = t.ascends at (k + 1) (omega arith) (omega arith) in let ck = ap (λ (x : Entry). x.cell) (i.after k u l) in let c = held.is in omega arith
       ] in

@@ -4,10 +4,10 @@ use Rattle.std.proofs.lemmas.Bool.{cases_eq, cases_lt}
 use Rattle.std.proofs.lemmas.Bool.Decides.{nat_tests}
 use Rattle.store.specs.declared.entry.Entry.{Entry}
 use Rattle.std.specs.Option.{unwrap_or}
-use Rattle.store.specs.Table.{entry_at, lookup, Ascends, Lacks, Held, Gap, Finds}
+use Rattle.store.specs.Table.{entry_at, lookup, Ascends, LacksAmong, HeldAmong, GapAmong, FindsAmong}
 
 -- no entry has the cell
-pub miss : (es : List Entry) (n c : ℕ) → Lacks es n c → lookup es n c ≡ pos 0
+pub miss : (es : List Entry) (n c : ℕ) → LacksAmong es n c → lookup es n c ≡ pos 0
 miss es zero c h = refl
 miss es (suc n) c h =
     let here : (entry_at es n).cell ≡ c → ⊥ = h n (omega arith) in
@@ -15,7 +15,7 @@ miss es (suc n) c h =
     grind (arith, nat_tests)
 
 -- the entry at a place has it
-pub hit : (es : List Entry) (n c at : ℕ) → Ascends es n → Held es n c at → lookup es n c ≡ (entry_at es at).value
+pub hit : (es : List Entry) (n c at : ℕ) → Ascends es n → HeldAmong es n c at → lookup es n c ≡ (entry_at es at).value
 hit es zero c at a h = absurd (omega (arith, h.used))
 hit es (suc n) c at a h =
     elim (cases_eq at n) [
@@ -32,7 +32,7 @@ hit es (suc n) c at a h =
     ]
 
 -- one of the two holds
-pub held_or_not : (es : List Entry) (n c : ℕ) → ((at : ℕ) × Held es n c at) ⊎ Lacks es n c
+pub held_or_not : (es : List Entry) (n c : ℕ) → ((at : ℕ) × HeldAmong es n c at) ⊎ LacksAmong es n c
 held_or_not es zero c = inr (λ k l. absurd (omega arith))
 held_or_not es (suc n) c =
     elim (cases_eq (entry_at es n).cell c) [
@@ -47,7 +47,7 @@ held_or_not es (suc n) c =
     ]
 
 -- a gap lacks the cell
-pub gap_lacks : (es : List Entry) (n c at : ℕ) → Gap es n c at → Lacks es n c
+pub gap_lacks : (es : List Entry) (n c at : ℕ) → GapAmong es n c at → LacksAmong es n c
 gap_lacks es n c at g k l e =
     elim (cases_lt k at) [
       | inl u ↦ let b = g.below k u in omega arith
@@ -56,8 +56,8 @@ gap_lacks es n c at g k l e =
 
 -- the same entries for a cell in two tables
 pub carried : (es fs : List Entry) (n m c : ℕ) → Ascends es n → Ascends fs m
-    → ((k : ℕ) → Held es n c k → (j : ℕ) × (j < m) × (entry_at fs j ≡ entry_at es k))
-    → ((k : ℕ) → Held fs m c k → (j : ℕ) × (j < n) × (entry_at es j ≡ entry_at fs k))
+    → ((k : ℕ) → HeldAmong es n c k → (j : ℕ) × (j < m) × (entry_at fs j ≡ entry_at es k))
+    → ((k : ℕ) → HeldAmong fs m c k → (j : ℕ) × (j < n) × (entry_at es j ≡ entry_at fs k))
     → lookup fs m c ≡ lookup es n c
 carried es fs n m c a b there back =
     elim (held_or_not es n c) [
@@ -71,6 +71,6 @@ carried es fs n m c a b there back =
     ]
 
 -- the number of a cell, from what a lookup answers
-pub found : (es : List Entry) (n c : ℕ) (r : Option ℤ) → Finds es n c r → lookup es n c ≡ unwrap_or r (pos 0)
+pub found : (es : List Entry) (n c : ℕ) (r : Option ℤ) → FindsAmong es n c r → lookup es n c ≡ unwrap_or r (pos 0)
 found es n c (Some v) f = f.0
 found es n c None f = miss es n c f

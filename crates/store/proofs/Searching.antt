@@ -7,7 +7,7 @@ use Rattle.std.proofs.lemmas.List.{get_or-take, length-take-le}
 use Rattle.std.proofs.lemmas.List.Sorted.{IsNonDecreasingBy-from_default}
 use Rattle.std.proofs.lemmas.Bool.Decides.{nat_tests}
 use Rattle.store.specs.declared.entry.Entry.{Entry}
-use Rattle.store.specs.Table.{entry_at, Ascends, Held, Gap}
+use Rattle.store.specs.Table.{entry_at, Ascends, HeldAmong, GapAmong}
 
 module _ (es : List Entry) (n c : ℕ) (all : n ≤ length es) (a : Ascends es n) where
   in_use : (k : ℕ) → k < n → entry_at (take n es) k ≡ entry_at es k
@@ -23,7 +23,7 @@ module _ (es : List Entry) (n c : ℕ) (all : n ≤ length es) (a : Ascends es n
       let cells : (entry_at (take n es) i).cell ≤ (entry_at (take n es) j).cell = grind (arith, a i j, cell_in_use i (omega arith), cell_in_use j u, λ (q : i ≡ j). ap (λ k. (entry_at (take n es) k).cell) q) in
       grind (arith, nat_tests))
 
-  pub searched : (r : Result ℕ ℕ) → IsSearchInRange r (length (take n es)) → IsBinarySearchResult (λ (e : Entry). nat_cmp e.cell c) (take n es) r → MatchResult r (Held es n c) (Gap es n c)
+  pub searched : (r : Result ℕ ℕ) → IsSearchInRange r (length (take n es)) → IsBinarySearchResult (λ (e : Entry). nat_cmp e.cell c) (take n es) r → MatchResult r (HeldAmong es n c) (GapAmong es n c)
   searched (Ok at) within equal =
       let u : at < n = omega (arith, length-take-le n es all) in
       record { used = u; is = sym (cell_in_use at u) ∙ ranked _ c _ (sym (equal _)) }

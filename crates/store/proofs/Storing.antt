@@ -6,21 +6,21 @@ use Rattle.store.specs.declared.entry.Entry.{Entry}
 use Rattle.store.specs.declared.fault.CellFault.{CellFault}
 use Rattle.store.specs.declared.fault.CellFault.TheVariants.{Full}
 use Rattle.store.specs.Meaning.{weight}
-use Rattle.store.specs.Table.{entry_at, lookup, Inside, Lacks, Held, Stored, Overfills, Puts}
+use Rattle.store.specs.Table.{entry_at, lookup, InsideAmong, LacksAmong, HeldAmong, StoredAmong, Overfills, PutsAmong}
 use Rattle.store.proofs.Counting.{weight_most, weight_one}
 use Rattle.store.proofs.Lookups.{hit, miss, held_or_not}
 use Rattle.store.proofs.Tidy.{Tidy}
 
 -- zero for a cell that has no entry: nothing to do
-pub stored_none : (es : List Entry) (n c : ℕ) → Lacks es n c → Stored es n c (pos 0) es n
+pub stored_none : (es : List Entry) (n c : ℕ) → LacksAmong es n c → StoredAmong es n c (pos 0) es n
 stored_none es n c h = let z = miss es n c h in record { here = z; others = λ d ne. refl; used = ap (λ w. n + weight w) z }
 
 -- a cell with no number has no entry
-pub unheld : (es : List Entry) (n c : ℕ) → Tidy es n → weight (lookup es n c) ≡ 0 → Lacks es n c
+pub unheld : (es : List Entry) (n c : ℕ) → Tidy es n → weight (lookup es n c) ≡ 0 → LacksAmong es n c
 unheld es n c t z k u e = let one = ap weight (hit es n c k t.ascends (record { used = u; is = e })) ∙ weight_one _ (t.nonzero k u) in omega arith
 
 -- a new entry is refused where as many as allowed are in use
-pub puts_full : (most : ℕ) (es : List Entry) (n c : ℕ) (v : ℤ) → Lacks es n c → (v ≡ pos 0 → ⊥) → most ≤ n → Puts most es n c v (Err (Full c)) es n
+pub puts_full : (most : ℕ) (es : List Entry) (n c : ℕ) (v : ℤ) → LacksAmong es n c → (v ≡ pos 0 → ⊥) → most ≤ n → PutsAmong most es n c v (Err (Full c)) es n
 puts_full most es n c v h z l = record {
   full = λ _. refl;
   done = λ free. absurd (free (ap weight (miss es n c h), weight_one v z, l));
@@ -29,10 +29,10 @@ puts_full most es n c v h z l = record {
 }
 
 -- a number for a cell that has an entry is never refused
-pub puts_held : (most : ℕ) (es fs : List Entry) (n k c at : ℕ) (v : ℤ) → Tidy es n → Held es n c at → Stored es n (entry_at es at).cell v fs k → Puts most es n c v (Ok tt) fs k
+pub puts_held : (most : ℕ) (es fs : List Entry) (n k c at : ℕ) (v : ℤ) → Tidy es n → HeldAmong es n c at → StoredAmong es n (entry_at es at).cell v fs k → PutsAmong most es n c v (Ok tt) fs k
 puts_held most es fs n k c at v t h s =
     let one = ap weight (hit es n c at t.ascends h) ∙ weight_one _ (t.nonzero at h.used) in
-    let P : ℕ → Type 0 = λ d. Stored es n d v fs k in record {
+    let P : ℕ → Type 0 = λ d. StoredAmong es n d v fs k in record {
       full = λ b. let none = b.0 in absurd (omega arith);
       done = λ _. refl;
       stored = λ _. subst P h.is s;
@@ -40,7 +40,7 @@ puts_held most es fs n k c at v t h s =
     }
 
 -- what a refusal says
-pub puts_refused : (most : ℕ) (es fs : List Entry) (n k c : ℕ) (v : ℤ) (f : CellFault) → Puts most es n c v (Err f) fs k → Overfills most es n c v
+pub puts_refused : (most : ℕ) (es fs : List Entry) (n k c : ℕ) (v : ℤ) (f : CellFault) → PutsAmong most es n c v (Err f) fs k → Overfills most es n c v
 puts_refused most es fs n k c v f p =
     let no : (Overfills most es n c v → ⊥) → Overfills most es n c v = λ o. let e = p.done o in cc in
     elim (cases_eq (weight (lookup es n c)) 0) [
@@ -56,7 +56,7 @@ puts_refused most es fs n k c v f p =
 
 module _ (T most : ℕ) (es fs : List Entry) (n k c : ℕ) (v : ℤ) where
   -- each cell of the new table is c, or has an entry in the old one
-  inside_stored : c < cell_count T → Tidy fs k → Stored es n c v fs k → Inside T es n → Inside T fs k
+  inside_stored : c < cell_count T → Tidy fs k → StoredAmong es n c v fs k → InsideAmong T es n → InsideAmong T fs k
   inside_stored l t s h i u =
       let d = (entry_at fs i).cell in
       elim (cases_eq d c) [
@@ -67,11 +67,11 @@ module _ (T most : ℕ) (es fs : List Entry) (n k c : ℕ) (v : ℤ) where
         ]
       ]
 
-  pub inside_puts : (r : Result Unit CellFault) → Puts most es n c v r fs k → c < cell_count T → Tidy fs k → Inside T es n → Inside T fs k
+  pub inside_puts : (r : Result Unit CellFault) → PutsAmong most es n c v r fs k → c < cell_count T → Tidy fs k → InsideAmong T es n → InsideAmong T fs k
   inside_puts (Ok d) p l t h = inside_stored l t (p.stored refl) h
   inside_puts (Err f) p l t h = λ i u. let e = p.kept f refl in let b = h i (omega (arith, e.1)) in let q = ap (λ (xs : List Entry). (entry_at xs i).cell) e.0 in omega arith
 
-  pub spare_puts : (r : Result Unit CellFault) → Puts most es n c v r fs k → n ≤ most → k ≤ most
+  pub spare_puts : (r : Result Unit CellFault) → PutsAmong most es n c v r fs k → n ≤ most → k ≤ most
   spare_puts (Ok d) p l =
       let s = (p.stored refl).used in
       let new = weight_most v in

@@ -1,10 +1,10 @@
 -- The laws of a store hold of every table.
-use Rattle.std.specs.Prelude.{ℕ, ◌≤◌, List}
+use Rattle.std.specs.Prelude.{ℕ, ◌≤◌}
 use Rattle.std.proofs.Common.{arith}
 use Rattle.std.proofs.lemmas.Int.{ints}
-use Rattle.store.specs.declared.entry.Entry.{Entry}
+use Rattle.store.specs.declared.table.Table.{Table}
 use Rattle.store.specs.Meaning.{Lawful}
-use Rattle.store.specs.Table.{table_means}
+use Rattle.store.specs.Contents.{table_means}
 
-pub table_lawful : (es : List Entry) (n T capacity : ℕ) → T ≤ 5 → capacity ≤ 1024 → Lawful (table_means es n T capacity)
-table_lawful es n T capacity few bounded = record { few = few; most = omega (arith, ints) }
+pub table_lawful : {N : ℕ} (t : Table N) (T capacity : ℕ) → T ≤ 5 → capacity ≤ 1024 → Lawful (table_means t T capacity)
+table_lawful t T capacity few bounded = record { few = few; most = omega (arith, ints) }

@@ -5,11 +5,11 @@
 use Rattle.std.specs.Prelude.{◌≡◌, ℕ, min, max, true, pos}
 use Rattle.store.specs.declared.sparse.Sparse.{Sparse}
 use Rattle.store.specs.Meaning.{Meaning}
-use Rattle.store.specs.Table.{table_means}
+use Rattle.store.specs.Contents.{table_means}
 
 -- bands, cells by lookup in the table, room by capacity, and always clean
 abbrev pub sparse_means : Sparse → Meaning
-sparse_means s = table_means s.table.entries s.table.used s.bands s.capacity
+sparse_means s = table_means s.table s.bands s.capacity
 
 -- a number brought into limits
 abbrev pub nearest : ℕ → ℕ → ℕ → ℕ

@@ -1,22 +1,21 @@
--- A table: entries sorted by cell, of which the first n are in use.
+-- Entries sorted by cell, of which the first n are in use; specs/Contents says the same of a table.
 --   entry_at es k      the entry at place k
 --   Every P es n       P holds of each entry in use
 --   Ascends            cells rise from entry to entry, so that no cell has two
 --   Nonzero            no entry in use holds zero
---   Inside T           every entry's cell is one of a store of T bands
---   Lacks              no entry in use has the cell
+--   InsideAmong T      every entry's cell is one of a store of T bands
+--   LacksAmong         no entry in use has the cell
 --   lookup             the number of a cell: that of its entry, or zero
---   Held, Gap          where a cell's entry is, or where a new one would stand
---   Finds              what a lookup answers: the number of the cell's entry, or none
---   Stored             a table with another number for one cell
---   Overfills, Puts    whether a number needs a new entry past the most, and what writing it answers and does
---   table_means        what a table means as a store
-use Rattle.std.specs.Prelude.{◌≡◌, ℕ, zero, suc, ◌+◌, ◌-◌, ◌<◌, ◌≤◌, true, cond, List, ℤ, pos, Option, MatchOption, Ok, Err, Result, ◌==◌, ◌≢◌, slice_index_or}
+--   HeldAmong, GapAmong    where a cell's entry is, or where a new one would stand
+--   FindsAmong         what a lookup answers: the number of the cell's entry, or none
+--   StoredAmong        a table with another number for one cell
+--   Overfills, PutsAmong    whether a number needs a new entry past the most, and what writing it answers and does
+use Rattle.std.specs.Prelude.{◌≡◌, ℕ, zero, suc, ◌+◌, ◌<◌, ◌≤◌, cond, List, ℤ, pos, Option, MatchOption, Ok, Err, Result, ◌==◌, ◌≢◌, slice_index_or}
 use Rattle.haar.specs.Tiles.{cell_count}
 use Rattle.store.specs.declared.entry.Entry.{Entry}
 use Rattle.store.specs.declared.fault.CellFault.{CellFault}
 use Rattle.store.specs.declared.fault.CellFault.TheVariants.{Full}
-use Rattle.store.specs.Meaning.{Meaning, weight}
+use Rattle.store.specs.Meaning.{weight}
 
 -- the entry at a place, and the empty one past the table's end
 abbrev pub entry_at : List Entry → ℕ → Entry
@@ -35,12 +34,12 @@ abbrev pub Nonzero : List Entry → ℕ → Type 0
 Nonzero = Every (λ e. e.value ≢ pos 0)
 
 -- cells are below the cell count
-abbrev pub Inside : ℕ → List Entry → ℕ → Type 0
-Inside T = Every (λ e. e.cell < cell_count T)
+abbrev pub InsideAmong : ℕ → List Entry → ℕ → Type 0
+InsideAmong T = Every (λ e. e.cell < cell_count T)
 
 -- no entry has the cell
-abbrev pub Lacks : List Entry → ℕ → ℕ → Type 0
-Lacks es n c = Every (λ e. e.cell ≢ c) es n
+abbrev pub LacksAmong : List Entry → ℕ → ℕ → Type 0
+LacksAmong es n c = Every (λ e. e.cell ≢ c) es n
 
 -- the number of a cell
 abbrev pub lookup : List Entry → ℕ → ℕ → ℤ
@@ -48,22 +47,22 @@ lookup es zero c = pos 0
 lookup es (suc n) c = cond ((entry_at es n).cell == c) (entry_at es n).value (lookup es n c)
 
 -- the entry at a place has the cell
-pub record Held (es : List Entry) (n c at : ℕ) : Type 0 where
+pub record HeldAmong (es : List Entry) (n c at : ℕ) : Type 0 where
   pub used : at < n
   pub is : (entry_at es at).cell ≡ c
 
 -- no entry has the cell, and one at this place would keep the cells rising
-pub record Gap (es : List Entry) (n c at : ℕ) : Type 0 where
+pub record GapAmong (es : List Entry) (n c at : ℕ) : Type 0 where
   pub within : at ≤ n
   pub below : (k : ℕ) → k < at → (entry_at es k).cell < c
   pub above : (k : ℕ) → at ≤ k → k < n → c < (entry_at es k).cell
 
 -- the number of the cell's entry, which is not zero, or none
-abbrev pub Finds : List Entry → ℕ → ℕ → Option ℤ → Type 0
-Finds es n c r = MatchOption r (Lacks es n c) (λ v. (lookup es n c ≡ v) × (v ≢ pos 0))
+abbrev pub FindsAmong : List Entry → ℕ → ℕ → Option ℤ → Type 0
+FindsAmong es n c r = MatchOption r (LacksAmong es n c) (λ v. (lookup es n c ≡ v) × (v ≢ pos 0))
 
 -- the first k entries of fs are the first n of es with v for cell c; zero has no entry
-pub record Stored (es : List Entry) (n c : ℕ) (v : ℤ) (fs : List Entry) (k : ℕ) : Type 0 where
+pub record StoredAmong (es : List Entry) (n c : ℕ) (v : ℤ) (fs : List Entry) (k : ℕ) : Type 0 where
   pub here : lookup fs k c ≡ v
   pub others : (d : ℕ) → (d ≢ c) → lookup fs k d ≡ lookup es n d
   pub used : k + weight (lookup es n c) ≡ n + weight v
@@ -73,12 +72,8 @@ abbrev pub Overfills : ℕ → List Entry → ℕ → ℕ → ℤ → Type 0
 Overfills most es n c v = (weight (lookup es n c) ≡ 0) × (weight v ≡ 1) × (most ≤ n)
 
 -- v put in cell c of a table of at most so many entries, with the answer r
-pub record Puts (most : ℕ) (es : List Entry) (n c : ℕ) (v : ℤ) (r : Result Unit CellFault) (fs : List Entry) (k : ℕ) : Type 0 where
+pub record PutsAmong (most : ℕ) (es : List Entry) (n c : ℕ) (v : ℤ) (r : Result Unit CellFault) (fs : List Entry) (k : ℕ) : Type 0 where
   pub full : Overfills most es n c v → r ≡ Err (Full c)
   pub done : (Overfills most es n c v → ⊥) → r ≡ Ok tt
-  pub stored : r ≡ Ok tt → Stored es n c v fs k
+  pub stored : r ≡ Ok tt → StoredAmong es n c v fs k
   pub kept : (f : CellFault) → r ≡ Err f → (fs ≡ es) × (k ≡ n)
-
--- what n entries in use mean as a store of so many bands and such a capacity
-abbrev pub table_means : List Entry → ℕ → ℕ → ℕ → Meaning
-table_means es n bands capacity = record { bands = bands; cells = lookup es n; room = pos (capacity - n); clean = true }

@@ -1,6 +1,6 @@
 // The sparse store: a table of the nonzero cells.
 ghost use Rattle.std.specs.Prelude.{◌≤◌};
-ghost use Rattle.store.specs.Table.{Inside};
+ghost use Rattle.store.specs.Contents.{Inside};
 
 use crate::table::Table;
 
@@ -17,5 +17,5 @@ pub struct Sparse {
     ghost roomy: { 1 ≤ capacity },
     ghost few: { bands ≤ 5 },
     ghost some: { 1 ≤ bands },
-    ghost inside: { Inside bands table.entries table.used },
+    ghost inside: { Inside bands table },
 }

@@ -2,31 +2,26 @@
 ghost use Rattle.store.specs.Laws.{table_lawful};
 ghost use Rattle.store.specs.SparseMeaning.{sparse_means};
 
-use crate::fault::CellFault;
+use crate::fault::{CellFault, check_cell};
 use crate::interface::Store;
 use crate::sparse::Sparse;
-use haar::cells::cell_count;
 
 impl Store for Sparse {
     ghost means = { sparse_means };
 
-    ghost laws = { λ s. table_lawful s.table.entries s.table.used s.bands s.capacity s.few s.bounded };
+    ghost laws = { λ s. table_lawful s.table s.bands s.capacity s.few s.bounded };
 
     fn bands(&self) -> u8 {
         self.bands
     }
 
     fn read(&self, cell: u32) -> Result<i64, CellFault> {
-        if cell >= cell_count(self.bands) {
-            return Err(CellFault::Cell(cell));
-        }
+        check_cell(self.bands, cell)?;
         Ok(self.table.get(cell).unwrap_or(0))
     }
 
     fn write(&mut self, cell: u32, value: i64) -> Result<(), CellFault> {
-        if cell >= cell_count(self.bands) {
-            return Err(CellFault::Cell(cell));
-        }
+        check_cell(self.bands, cell)?;
         self.table.put(cell, value, self.capacity)
     }
 

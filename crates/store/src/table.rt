@@ -1,10 +1,13 @@
 // A table of the nonzero numbers of some cells, sorted by cell. Its places lie in it, empty at first: a store takes no memory.
-ghost use Rattle.std.specs.Prelude.{◌≡◌, ◌<◌, ◌≤◌, ◌≢◌, length, min, take, pos, MatchResult};
-ghost use Rattle.store.specs.Table.{Ascends, Nonzero, Finds, Held, Gap, Stored, Puts, entry_at};
+ghost use Rattle.std.specs.Prelude.{◌≤◌};
+ghost use Rattle.store.specs.Table.{Ascends, Nonzero};
 
-use crate::entry::{EMPTY, Entry};
-use crate::fault::CellFault;
+mod contents;
 
+use crate::entry::Entry;
+
+// No ArrayVec: a rule of the project says that every entry is there when a table is made, each of them empty.
+// No Model: a caller would see a list alone, and each call would have to say again that its cells rise and none holds zero.
 #[derive(Drop)]
 pub struct Table<const N: usize> {
     entries: [Entry; N],
@@ -13,101 +16,4 @@ pub struct Table<const N: usize> {
     ghost within: { used ≤ N },
     ghost ascends: { Ascends entries used },
     ghost nonzero: { Nonzero entries used },
-}
-
-impl<const N: usize> Table<N> {
-    pub fn new() -> Table<N>
-        ensures { result.used ≡ 0 }
-    {
-        Table {
-            entries: [EMPTY; N],
-            used: 0,
-        }
-    }
-
-    // The entries in use, in rising cell number.
-    pub fn entries(&self) -> &[Entry]
-        ensures len { length result.now ≡ self.now.used }
-        ensures all { result.now ≡ take self.now.used self.now.entries }
-    {
-        &self.entries[..self.used]
-    }
-
-    // The number of a cell that has one.
-    pub fn get(&self, cell: u32) -> Option<i64>
-        ensures { Finds self.now.entries self.now.used cell result }
-    {
-        let at = self.find(cell).ok()?;
-        Some(self.entries[at].value)
-    }
-
-    // Another number for a cell; zero takes its entry out. A new entry is refused where `most` or all are in use.
-    pub fn put(&mut self, cell: u32, value: i64, most: usize) -> Result<(), CellFault>
-        ensures { Puts (min most N) self.old.entries self.old.used cell value result self.new.entries self.new.used }
-    {
-        if value == 0 {
-            self.remove(cell);
-            return Ok(());
-        }
-        match self.find(cell) {
-            Ok(at) => self.change(at, value),
-            Err(_) if self.used >= most.min(N) => return Err(CellFault::Full(cell)),
-            Err(at) => self.insert(at, Entry { cell, value }),
-        }
-        Ok(())
-    }
-
-    // Takes a cell's entry out, if it has one.
-    pub fn remove(&mut self, cell: u32)
-        ensures { Stored self.old.entries self.old.used cell (pos 0) self.new.entries self.new.used }
-    {
-        if let Ok(at) = self.find(cell) {
-            self.close(at);
-        }
-    }
-
-    // Takes all entries out.
-    pub fn clear(&mut self)
-        ensures { self.new.used ≡ 0 }
-    {
-        self.used = 0;
-    }
-
-    // Where the cell's entry is, or else where it would stand.
-    fn find(&self, cell: u32) -> Result<usize, usize>
-        ensures { MatchResult result (Held self.now.entries self.now.used cell) (Gap self.now.entries self.now.used cell) }
-    {
-        self.entries[..self.used].binary_search_by_key(&cell, |entry| entry.cell)
-    }
-
-    // A new entry at its place: those from there on go one up.
-    fn insert(&mut self, at: usize, new: Entry)
-        requires gap { Gap self.old.entries self.old.used new.cell at }
-        requires free { self.old.used < N }
-        requires nonzero { new.value ≢ pos 0 }
-        ensures { Stored self.old.entries self.old.used new.cell new.value self.new.entries self.new.used }
-    {
-        self.entries.copy_within(at..self.used, at + 1);
-        self.entries[at] = new;
-        self.used += 1;
-    }
-
-    // An entry taken out: those after it go one down.
-    fn close(&mut self, at: usize)
-        requires { at < self.old.used }
-        ensures { Stored self.old.entries self.old.used (entry_at self.old.entries at).cell (pos 0) self.new.entries self.new.used }
-    {
-        self.entries.copy_within(at + 1..self.used, at);
-        self.used -= 1;
-    }
-
-    // Another number, not zero, in an entry.
-    fn change(&mut self, at: usize, value: i64)
-        requires used { at < self.old.used }
-        requires nonzero { value ≢ pos 0 }
-        ensures { Stored self.old.entries self.old.used (entry_at self.old.entries at).cell value self.new.entries self.new.used }
-    {
-        let entry = &mut self.entries[at];
-        entry.value = value;
-    }
 }

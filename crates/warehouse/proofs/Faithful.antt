@@ -7,8 +7,9 @@ use Rattle.store.specs.Meaning.{Meaning}
 use Rattle.store.specs.declared.fault.CellFault.TheVariants as cell
 use Rattle.warehouse.specs.declared.fault.Asked.TheVariants.{Minute, Minutes}
 use Rattle.warehouse.specs.declared.fault.Fault.TheVariants.{Cell, Range, Domain}
-use Rattle.warehouse.specs.Ask.{counted, piece, range_reading, sum_reading, averaged, refused, point_answer, sum_answer, mean_answer}
+use Rattle.warehouse.specs.Ask.{counted, piece, range_reading, sum_reading, averaged, point_answer, sum_answer, mean_answer}
 use Rattle.warehouse.specs.Faithful.{Holds, ReadsBack, WithoutBands}
+use Rattle.warehouse.specs.Faults.{refused}
 use Rattle.warehouse.specs.Read.{◌then◌, look, sight, descend, read, cells_read, range_cells, floor}
 use Rattle.warehouse.specs.View.{View}
 use Rattle.warehouse.proofs.Sums.{reads_point, reads_range}

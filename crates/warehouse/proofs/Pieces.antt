@@ -1,6 +1,7 @@
 -- The longest interval, and a range split into such intervals.
-use Rattle.std.proofs.Common.{◌≡◌, ℕ, zero, suc, ◌+◌, ◌-◌, ◌*◌, ◌/◌, ◌%◌, ◌^◌, ◌<◌, ◌≤◌, Bool, true, false, cond, eqb, leb, ◌⊎◌, [], ◌∷◌, sym, refl, ap, ◌∙◌, subst, inl, inr, ⊎_elim, arith, pow_pos, pow_mono}
+use Rattle.std.proofs.Common.{◌≡◌, ℕ, zero, suc, ◌+◌, ◌-◌, ◌*◌, ◌/◌, ◌%◌, ◌^◌, ◌<◌, ◌≤◌, min, Bool, true, false, cond, eqb, leb, ◌⊎◌, [], ◌∷◌, sym, refl, ap, ◌∙◌, subst, inl, inr, ⊎_elim, arith, pow_pos, pow_mono, le_antisymm, add-one}
 use native.Mathlib.Nat.{two-pow-succ, zero-mod, mod_self, mod-add-mod, add-mod_right}
+use lib.Count.{count_trailing_zeros, under}
 use lib.Pow.{mod-mod-pow, mod-pow-add}
 use Rattle.std.proofs.lemmas.Bool.{cases_lt, cases_eq, and_parts, and_from, eqb-true, leb-true, le-leb, lt-leb, eq-eqb, both_ways, cond-true, cond-false}
 use Rattle.warehouse.specs.Laws.{Starts}
@@ -34,21 +35,70 @@ longest_is (suc l) a b h = go (starts (suc l) a b) refl (longest_is l a b h)
           (cases_lt i (suc l));
     }
 
--- the search from the top goes one level down
-pub longest_less : (l a b : ℕ) → 0 < l → starts l a b ≡ false → longest l a b ≡ longest (l - 1) a b
-unfolding longest
-longest_less zero a b h e = absurd (omega arith)
-longest_less (suc l) a b h e = let q : l ≡ suc l - 1 = omega arith in cond-false (starts (suc l) a b) (suc l) (longest l a b) e ∙ ap (λ x. longest x a b) q
+-- there is one
+longest_one : (n a b i j : ℕ) → Longest n a b i → Longest n a b j → i ≡ j
+longest_one n a b i j u v = le_antisymm (v.most i u.low u.here) (u.most j v.low v.here)
 
-pub longest_here : (l a b : ℕ) → starts l a b ≡ true → longest l a b ≡ l
+-- past the end there is none, and the level is 0
+longest_none : (l a b : ℕ) → b ≤ a → longest l a b ≡ 0
 unfolding longest
-longest_here zero a b e = refl
-longest_here (suc l) a b e = cond-true (starts (suc l) a b) (suc l) (longest l a b) e
+longest_none zero a b h = refl
+longest_none (suc l) a b h = go (starts (suc l) a b) refl (longest_none l a b h)
+  where
+    go : (t : Bool) → starts (suc l) a b ≡ t → longest l a b ≡ 0 → cond t (suc l) (longest l a b) ≡ 0
+    go true e z = let m = (starts_is (suc l) a b e).ends in let p = pow_pos (suc l) in absurd (omega arith)
+    go false e z = z
 
-pub longest_zero : (l a b : ℕ) → l ≡ 0 → longest l a b ≡ l
-unfolding longest
-longest_zero zero a b e = refl
-longest_zero (suc l) a b e = absurd (omega arith)
+-- a number modulo twice a power
+mod_twice : (a i : ℕ) → a % 2 ^ suc i ≡ (a / 2 % 2 ^ i) * 2 + a % 2
+mod_twice a i = ap (λ x. a % 2 ^ x) (sym (add-one i)) ∙ mod-pow-add a i 1
+
+-- its trailing zeros tell which powers divide a number: all up to there, and no others
+round_below : (k a i : ℕ) → i ≤ count_trailing_zeros k a → a % 2 ^ i ≡ 0
+unfolding count_trailing_zeros
+round_below k a zero h = omega arith
+round_below zero a (suc i) h = absurd (omega arith)
+round_below (suc k) a (suc i) h =
+    ⊎_elim
+    (λ (e : a % 2 ≡ 0). let t = ap (λ r. under r (count_trailing_zeros k (a / 2))) e in let r = round_below k (a / 2) i (omega arith) in omega (arith, mod_twice a i))
+    (λ (ne : a % 2 ≡ 0 → ⊥). let o : a % 2 ≡ 1 = omega arith in let t = ap (λ r. under r (count_trailing_zeros k (a / 2))) o in absurd (omega arith))
+    (cases_eq (a % 2) 0)
+
+below_round : (k a i : ℕ) → i ≤ k → a % 2 ^ i ≡ 0 → i ≤ count_trailing_zeros k a
+unfolding count_trailing_zeros
+below_round k a zero h e = omega arith
+below_round zero a (suc i) h e = absurd (omega arith)
+below_round (suc k) a (suc i) h e =
+    let m = mod_twice a i in
+    let z : a % 2 ≡ 0 = omega arith in
+    let r = below_round k (a / 2) i (omega arith) (omega arith) in
+    let t = ap (λ r. under r (count_trailing_zeros k (a / 2))) z in
+    omega arith
+
+-- the least of the size, the zeros that a ends in, and the power g of two that the length holds
+module _ (n a b g : ℕ) (low : n ≤ 32) where
+  abbrev pub least : ℕ
+  least = min (min n (count_trailing_zeros 32 a)) g
+
+  least_longest : 2 ^ g ≤ b - a → b - a < 2 * 2 ^ g → Longest n a b least
+  least_longest le lt = record {
+    low = omega arith;
+    here = record { aligned = round_below 32 a least (omega arith); ends = let p : 2 ^ least ≤ 2 ^ g = pow_mono {i = least} {j = g} (omega arith) in let q = pow_pos least in omega arith };
+    most = λ i l s.
+        let z = below_round 32 a i (omega arith) s.aligned in
+        let m = s.ends in
+        ⊎_elim
+        (λ (over : g < i). let p : 2 ^ suc g ≤ 2 ^ i = pow_mono {i = suc g} {j = i} over in absurd (omega (arith, two-pow-succ g)))
+        (λ (under : i ≤ g). omega arith)
+        (cases_lt g i);
+  }
+
+  pub longest_least : (a < b → (2 ^ g ≤ b - a) × (b - a < 2 * 2 ^ g)) → (b ≤ a → g ≡ 0) → least ≡ longest n a b
+  longest_least some none =
+      ⊎_elim
+      (λ (lt : a < b). longest_one n a b _ _ (least_longest (some lt).0 (some lt).1) (longest_is n a b lt))
+      (λ (le : b ≤ a). let z = none le in let e = longest_none n a b le in omega arith)
+      (cases_lt a b)
 
 -- a number of intervals that is enough
 split_enough : (x y n a b : ℕ) → b - a ≤ x → b - a ≤ y → split x n a b ≡ split y n a b
@@ -141,6 +191,3 @@ module _ (n k a b j : ℕ) (small : n ≤ 20) (lt : a < b) (inside : b ≤ 2 ^ n
       let l : j < p.0 = ⊎_elim (λ (lt : j < p.0). lt) (λ (ge : p.0 ≤ j). let q : 2 ^ p.0 ≤ 2 ^ j = pow_mono {i = p.0} {j = j} ge in let s = u.here.ends in absurd (omega (arith, p.2))) (cases_lt j p.0) in
       ended p.0 l (λ _. rounder a (suc j) p.0 l p.1) p.3)
       s
-
-pub below_top : (n a b : ℕ) → n ≤ 20 → b ≤ 2 ^ n → a < b → a < 2 ^ 20
-below_top n a b h k l = let p : 2 ^ n ≤ 2 ^ 20 = pow_mono {i = n} {j = 20} h in omega arith

@@ -1,4 +1,8 @@
 -- The numbers of a warehouse's refusals, and a fault with what was asked for.
+--   fault_number   the number of the rules
+--   refused        an answer, where a fault comes with what was asked for
+--   fault_alone    an answer without what its refusal repeats
+--   Repeats        a refusal repeats what was asked for
 use Rattle.std.specs.Prelude.{◌≡◌, ℕ, Ok, Err, Result}
 use Rattle.store.specs.Faults.{cell_fault_number}
 use Rattle.warehouse.specs.declared.fault.Asked.{Asked}
@@ -23,6 +27,11 @@ fault_number Over = 26
 fault_number (Torn c) = 27
 fault_number (Dirty c) = 28
 fault_number (Fine c) = 29
+
+-- a fault with what was asked for
+abbrev pub refused : {X : Type 0} → Asked → Result X Fault → Result X Refusal
+refused asked (Ok x) = Ok x
+refused asked (Err f) = Err (record { fault = f; asked = asked })
 
 -- an answer without what its refusal repeats
 abbrev pub fault_alone : {X : Type 0} → Result X Refusal → Result X Fault

@@ -1,8 +1,9 @@
 -- What a trend question answers, for every input.
 --   inside n j k      the interval (j,k) lies inside the size n
+--   Trended j         a level that has trends
 --   graded j c d      the trend of the difference d in cell c: Fine past 2^53
 --   trend_answer      the answer, where a fault comes with what was asked for
-use Rattle.std.specs.Prelude.{ℕ, ◌-◌, ◌^◌, Bool, cond, ◌&&◌, ◌||◌, ℤ, Ok, Err, Result, ◌==◌, nat_le, nat_lt, unsigned_abs}
+use Rattle.std.specs.Prelude.{ℕ, ◌-◌, ◌^◌, ◌≤◌, Bool, cond, ◌&&◌, ◌||◌, ℤ, Ok, Err, Result, ◌==◌, nat_le, nat_lt, unsigned_abs}
 use Rattle.haar.specs.declared.coefficient.Coefficient.TheVariants.{Difference}
 use Rattle.haar.specs.declared.trend.Trend.{Trend}
 use Rattle.haar.specs.Tiles.{cell_number}
@@ -12,12 +13,15 @@ use Rattle.warehouse.specs.declared.fault.Asked.TheVariants as asked
 use Rattle.warehouse.specs.declared.fault.Fault.{Fault}
 use Rattle.warehouse.specs.declared.fault.Fault.TheVariants.{Interval, Domain, Fine}
 use Rattle.warehouse.specs.declared.fault.Refusal.{Refusal}
-use Rattle.warehouse.specs.Ask.{refused}
+use Rattle.warehouse.specs.Faults.{refused}
 use Rattle.warehouse.specs.Read.{◌then◌, look}
 use Rattle.warehouse.specs.View.{View}
 
 abbrev pub inside : ℕ → ℕ → ℕ → Bool
 inside n j k = nat_le j n && nat_lt k (2 ^ (n - j))
+
+abbrev pub Trended : ℕ → Type 0
+Trended j = (1 ≤ j) × (j ≤ 20)
 
 abbrev pub graded : ℕ → ℕ → ℤ → Result Trend Fault
 graded j c d = cond (nat_le (unsigned_abs d) (2 ^ 53)) (Ok (trend_of j d)) (Err (Fine c))

@@ -3,6 +3,7 @@ pub mod Faults
 pub mod Founding
 pub mod Read
 pub mod Ask
+pub mod Tree
 pub mod Faithful
 pub mod Laws
 pub mod Grading

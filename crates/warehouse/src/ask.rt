@@ -4,6 +4,7 @@ ghost use Rattle.warehouse.specs.Ask.{point_reading, sum_reading, mean_reading, 
 ghost use Rattle.warehouse.specs.View.{known};
 
 use crate::fault::{Asked, Fault, Refusal};
+use crate::numbers::answered;
 use crate::reading::Reading;
 use crate::record::Warehouse;
 use store::interface::Store;
@@ -14,30 +15,21 @@ impl<S: Store> Warehouse<S> {
     pub fn point(&self, minute: u32) -> Result<Reading, Refusal>
         ensures { result ≡ point_answer (known S.means self.now) minute }
     {
-        let reading = self
-            .point_reading(minute)
-            .map_err(|fault| (fault, Asked::Minute(minute)))?;
-        Ok(reading)
+        answered(self.point_reading(minute), Asked::Minute(minute))
     }
 
     // The sum of the minutes from `from` to `to - 1`.
     pub fn sum(&self, from: u32, to: u32) -> Result<Reading, Refusal>
         ensures { result ≡ sum_answer (known S.means self.now) from to }
     {
-        let reading = self
-            .sum_reading(from, to)
-            .map_err(|fault| (fault, Asked::Minutes(from, to)))?;
-        Ok(reading)
+        answered(self.sum_reading(from, to), Asked::Minutes(from, to))
     }
 
     // The mean of the minutes from `from` to `to - 1`, rounded toward minus infinity.
     pub fn mean(&self, from: u32, to: u32) -> Result<Reading, Refusal>
         ensures { result ≡ mean_answer (known S.means self.now) from to }
     {
-        let reading = self
-            .mean_reading(from, to)
-            .map_err(|fault| (fault, Asked::Minutes(from, to)))?;
-        Ok(reading)
+        answered(self.mean_reading(from, to), Asked::Minutes(from, to))
     }
 
     fn point_reading(&self, minute: u32) -> Result<Reading, Fault>

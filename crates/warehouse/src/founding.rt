@@ -5,6 +5,7 @@ ghost use Rattle.store.specs.Meaning.{Settles};
 ghost use Rattle.warehouse.specs.Founding.{Empty, Surveyed, Surveys, cut};
 
 use crate::fault::{Asked, Fault, Refusal};
+use crate::numbers::answered;
 use crate::record::Warehouse;
 use haar::cells::cell_count;
 use store::interface::Store;
@@ -38,8 +39,7 @@ fn surveyed<S: Store>(store: &S, size: u8) -> Result<(), Fault>
 pub fn survey<S: Store>(store: &S, size: u8) -> Result<(), Refusal>
     ensures { Surveys (S.means store.now) size result }
 {
-    surveyed(store, size).map_err(|fault| (fault, Asked::Size(size)))?;
-    Ok(())
+    answered(surveyed(store, size), Asked::Size(size))
 }
 
 impl<S: Store> Warehouse<S> {

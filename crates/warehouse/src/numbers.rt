@@ -1,6 +1,6 @@
 // The numbers of refusals, and how a refusal passes up.
 ghost use Rattle.std.specs.Prelude.{◌≡◌};
-ghost use Rattle.warehouse.specs.Faults.{fault_number};
+ghost use Rattle.warehouse.specs.Faults.{fault_number, fault_alone, Repeats, refused};
 ghost use Rattle.warehouse.specs.declared.fault.Fault.TheVariants.{Cell};
 
 use crate::fault::{Asked, Fault, Refusal};
@@ -46,4 +46,13 @@ impl From<(Fault, Asked)> for Refusal {
     fn from((fault, asked): (Fault, Asked)) -> Refusal {
         Refusal { fault, asked }
     }
+}
+
+// A call's answer, whose refusal repeats what was asked for.
+pub fn answered<T>(answer: Result<T, Fault>, asked: Asked) -> Result<T, Refusal>
+    ensures is { result ≡ refused asked answer }
+    ensures alone { fault_alone result ≡ answer }
+    ensures repeats { Repeats result asked }
+{
+    Ok(answer.map_err(|fault| (fault, asked))?)
 }

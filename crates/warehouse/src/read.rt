@@ -1,17 +1,19 @@
 // Sums read back from a store's cells, level by level.
 ghost use Rattle.std.specs.Prelude.{◌≡◌, suc, ◌-◌, ◌*◌, ◌/◌, ◌^◌, ◌<◌, ◌≤◌, unsigned_abs};
-ghost use Rattle.haar.specs.Places.{InTree};
-ghost use Rattle.warehouse.specs.Ask.{piece};
-ghost use Rattle.warehouse.specs.Read.{look, sight, halve, lower, read, start};
+ghost use Rattle.haar.specs.Places.{InSize, InTree};
+ghost use Rattle.warehouse.specs.Ask.{sum_in, piece_in};
+ghost use Rattle.warehouse.specs.Read.{look, sight, halve, lower, start};
+ghost use Rattle.warehouse.specs.Tree.{tree_view};
 
 use crate::fault::Fault;
 use crate::reading::Reading;
-use crate::record::LIMIT;
+use crate::record::is_small;
 use crate::tree::Tree;
 use haar::cells::{difference_cell, sum_cell};
 use store::interface::Store;
 
 // The half with this index, from the sum above it and the difference in a cell. An odd sum is never halved.
+// The `sum_at` of loads halves for itself: no sum there is odd, and one function for both would need an answer there for one.
 fn halved(cell: u32, index: u32, sum: i64, difference: i64) -> Result<i64, Fault>
     requires { (unsigned_abs sum ≤ 2 ^ 56) × (unsigned_abs difference ≤ 2 ^ 56) }
     ensures { result ≡ halve cell index sum difference }
@@ -44,7 +46,7 @@ impl<S: Store> Tree<'_, S> {
         ensures { result ≡ sight cell (look (S.means self.now.store.now) cell) }
     {
         let value = self.store.read(cell)?;
-        if value.unsigned_abs() > LIMIT {
+        if !is_small(value) {
             return Err(Fault::Torn(cell));
         }
         Ok(value)
@@ -64,12 +66,12 @@ impl<S: Store> Tree<'_, S> {
 
     // S(level, index), from slot 0 of the tile over it.
     fn sum(&self, level: u8, index: u32) -> Result<i64, Fault>
-        requires low { level ≤ self.now.size }
-        requires inside { index < 2 ^ (self.now.size - level) }
-        ensures { result ≡ read (S.means self.now.store.now).bands self.now.size (look (S.means self.now.store.now)) level index }
+        requires { InSize self.now.size level index }
+        ensures { result ≡ sum_in (tree_view self.now) level index }
     {
         let first = sum_cell(self.store.bands(), level, index).unwrap();
         let mut sum = self.seen(first)?;
+        // by a loop: each turn may refuse, and a `try_fold` would say no less
         for below in (0..reading_start(self.size, level) - level).rev() {
             sum = self.lowered(level + below, index >> below, sum)?;
         }
@@ -78,9 +80,8 @@ impl<S: Store> Tree<'_, S> {
 
     // S(level, index), with the number of cells read for it.
     pub(crate) fn piece(&self, level: u8, index: u32) -> Result<Reading, Fault>
-        requires low { level ≤ self.now.size }
-        requires inside { index < 2 ^ (self.now.size - level) }
-        ensures { result ≡ piece (S.means self.now.store.now).bands self.now.size (look (S.means self.now.store.now)) level index }
+        requires { InSize self.now.size level index }
+        ensures { result ≡ piece_in (tree_view self.now) level index }
     {
         let value = self.sum(level, index)?;
         let cells = 1 + u32::from(reading_start(self.size, level) - level);

@@ -1,10 +1,12 @@
 // The trend of an interval: how its two halves compare.
 ghost use Rattle.std.specs.Prelude.{◌≡◌, ◌^◌, ◌≤◌, unsigned_abs};
+ghost use Rattle.haar.specs.Places.{InTree};
 ghost use Rattle.haar.specs.Trend.{amount, trend_of};
-ghost use Rattle.warehouse.specs.Grading.{trend_reading, trend_answer};
+ghost use Rattle.warehouse.specs.Grading.{Trended, graded_at, trend_reading, trend_answer};
 ghost use Rattle.warehouse.specs.View.{known};
 
 use crate::fault::{Asked, Fault, Refusal};
+use crate::numbers::answered;
 use crate::record::Warehouse;
 use haar::cells::difference_cell;
 use haar::trend::Trend;
@@ -16,14 +18,14 @@ const EXACT: u64 = 1 << 53;
 
 // A size as a float, halved once for each level past the first. (A float has no `From` for 64 bits.)
 fn halved(size: u64, level: u8) -> f64
-    requires { (size ≤ 2 ^ 53) × ((1 ≤ level) × (level ≤ 20)) }
+    requires { (size ≤ 2 ^ 53) × Trended level }
     ensures { result ≡ amount level size }
 {
     (1..level).fold(size as f64, |x, _| x / 2.0)
 }
 
 fn trend_of(difference: i64, level: u8) -> Trend
-    requires { (unsigned_abs difference ≤ 2 ^ 53) × ((1 ≤ level) × (level ≤ 20)) }
+    requires { (unsigned_abs difference ≤ 2 ^ 53) × Trended level }
     ensures { result ≡ trend_of level difference }
 {
     let amount = halved(difference.unsigned_abs(), level);
@@ -40,10 +42,10 @@ impl<S: Store> Warehouse<S> {
     pub fn trend(&self, level: u8, index: u32) -> Result<Trend, Refusal>
         ensures { result ≡ trend_answer (known S.means self.now) level index }
     {
-        let trend = self
-            .trend_reading(level, index)
-            .map_err(|fault| (fault, Asked::Interval(level, index)))?;
-        Ok(trend)
+        answered(
+            self.trend_reading(level, index),
+            Asked::Interval(level, index),
+        )
     }
 
     fn trend_reading(&self, level: u8, index: u32) -> Result<Trend, Fault>
@@ -55,6 +57,15 @@ impl<S: Store> Warehouse<S> {
         if !self.has(level, index) {
             return Err(Fault::Domain);
         }
+        self.trend_inside(level, index)
+    }
+
+    // The trend of an interval of the store's tree, from its cell.
+    fn trend_inside(&self, level: u8, index: u32) -> Result<Trend, Fault>
+        requires tree { InTree (S.means self.now.store).bands level index }
+        requires level { Trended level }
+        ensures { result ≡ graded_at (S.means self.now.store) level index }
+    {
         let cell = difference_cell(self.store.bands(), level, index).unwrap();
         let difference = self.store.read(cell)?;
         if difference.unsigned_abs() > EXACT {

@@ -1,11 +1,12 @@
 // The size of a warehouse, and what lies inside it.
 ghost use Rattle.std.specs.Prelude.{◌≡◌, ℕ, ◌-◌, ◌^◌, ◌<◌, ◌≤◌, ◌↔◌, IsTrue};
-ghost use Rattle.haar.specs.Places.{InTree};
+ghost use Rattle.haar.specs.Places.{InSize, InTree};
 ghost use Rattle.store.specs.Meaning.{Lawful};
 ghost use Rattle.warehouse.specs.Grading.{inside};
 ghost use Rattle.warehouse.specs.View.{known};
 
 use crate::record::Warehouse;
+use haar::cells::is_inside;
 use store::interface::Store;
 
 impl<S: Store> Warehouse<S> {
@@ -21,10 +22,9 @@ impl<S: Store> Warehouse<S> {
     // Whether the interval (level, index) lies inside the size.
     pub fn has(&self, level: u8, index: u32) -> bool
         ensures is { result ≡ inside (known S.means self.now).size level index }
-        ensures lies { IsTrue result ↔ (level ≤ (known S.means self.now).size) × (index < 2 ^ ((known S.means self.now).size - level)) }
+        ensures lies { IsTrue result ↔ InSize (known S.means self.now).size level index }
         ensures tree { IsTrue result → InTree (S.means self.now.store).bands level index }
     {
-        let size = self.size();
-        level <= size && index < 1 << (size - level)
+        is_inside(self.size(), level, index)
     }
 }

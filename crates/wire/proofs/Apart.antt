@@ -16,7 +16,7 @@ split [] = ([], [])
 split (b ∷ bs) = cond (ltb b 33) ([], bs) (b ∷ (split bs).0, (split bs).1)
 
 -- neither of the two is among them
-abbrev Solid : List ℕ → Type 0
+abbrev pub Solid : List ℕ → Type 0
 Solid ds = AllByRecursion (λ b. 33 ≤ b) ds
 
 split_at : (ds : List ℕ) (s : ℕ) (xs : List ℕ) → Solid ds → s < 33 → split (ds ++ (s ∷ xs)) ≡ (ds, xs)
@@ -27,7 +27,7 @@ solid_digits : (ds : List ℕ) → AllDigits 10 ds → Solid ds
 solid_digits [] h = tt
 solid_digits (c ∷ cs) h = (omega (arith, digit_from_value c h.0), solid_digits cs h.1)
 
-solid_decimal : (n : ℕ) → n < 2 ^ 64 → Solid (decimal n)
+pub solid_decimal : (n : ℕ) → n < 2 ^ 64 → Solid (decimal n)
 solid_decimal n h = solid_digits (decimal n) (decimal_is_IsNumeral n h).0.1
 
 solid_signed : (z : ℤ) → InRangeNumber z → Solid (signed_decimal z)

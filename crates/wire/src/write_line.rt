@@ -8,7 +8,9 @@ use arrayvec::ArrayString;
 use itoa::{Buffer, Integer};
 
 // The longest line has 34 bytes.
-type Text = ArrayString<48>;
+pub const LINE: usize = 48;
+
+type Text = ArrayString<LINE>;
 
 // The buffer starts with the line's bytes if they fit, and else is left as it was.
 pub fn write_line(line: Line, buffer: &mut [u8]) -> Result<usize, LineFault>
@@ -40,6 +42,7 @@ fn line_text(line: Line) -> Text
     }
 }
 
+// A letter is below 128, here and below: a type that says so would be made of a constant at each call.
 fn bare(letter: char) -> Text
     requires { letter < 128 }
     ensures { result.bytes ≡ letter ∷ newline }

@@ -2,9 +2,6 @@ use Rattle.std.proofs.Common.{drop, arith, rules, take_all, length-drop}
 use Rattle.console.proofs.Onward.{onward_none, onward_more, over, all_played}
 use Rattle.console.proofs.playing.play.Goals as goal
 
-pub commands-init : goal.commands-init
-commands-init g c = onward_none _ _ _ _ _
-
 pub commands-preserved : goal.commands-preserved
 commands-preserved g c =
     let w = c.in-Ok-Some.width in
@@ -14,6 +11,3 @@ pub returns-in-Ok-None : goal.returns-in-Ok-None
 returns-in-Ok-None g c =
     over g.O.Sink c.args.sink.now c.commands.sink c.obey_next-next.new.sink _ _ _ c.args.offset c.commands.here c.args.bytes.now c.commands.rest.now c.args.last c.obey_next-next.result.1 (search rules)
     c.commands.invariant (c.is_ready.ensures.enough c.commands-test.true) c.obey_next-next.ensures
-
-pub returns : goal.returns
-returns g c = all_played _ _ _ _ _ _ _ _ _ c.commands.invariant (c.is_ready.ensures.few c.commands-test.false) (c.is_ready.ensures.all c.commands-test.false)

@@ -6,10 +6,10 @@ pub returns-in-Ok : goal.returns-in-Ok
 returns-in-Ok c =
     let e : to_z w64 (of_z w64 c.from.result) ≡ c.args.value = omega (arith, ints) in
     let h = rw e at c.in-Ok.ensures in
-    rw c.in-Some.is (Ok c.in-Ok.load, h, refl, refl)
+    (Ok c.in-Ok.load, h, refl, refl)
 
 pub returns-in-Err : goal.returns-in-Err
 returns-in-Err c =
     let e : to_z w64 (of_z w64 c.from.result) ≡ c.args.value = omega (arith, ints) in
     let h = rw e at c.in-Err.ensures in
-    rw c.in-Some.is (Err c.in-Err.back, h, c.handed_back.ensures.load, c.handed_back.ensures.refusal)
+    (Err c.in-Err.back, h, c.handed_back.ensures.load, c.handed_back.ensures.refusal)

@@ -1,6 +1,13 @@
-use Rattle.std.proofs.Common.{rules}
+use Rattle.std.proofs.Common.{◌≡◌, refl, arith, w32, to_z, of_z, rules}
+use Rattle.std.proofs.lemmas.Int.{ints}
 use Rattle.feed.proofs.run.obey.Goals as goal
-use Rattle.feed.proofs.run.obey.Goals.{in-Add, in-Grow, in-Point, in-Sum, in-Mean}
+use Rattle.feed.proofs.run.obey.Goals.{in-Add-default, in-GiveUp-Some, in-Grow-default, in-Point-default, in-Sum-default, in-Mean-default}
+
+pub returns-in-Value-Some : goal.returns-in-Value-Some
+returns-in-Value-Some g c =
+    let e : to_z w32 (of_z w32 c.in-Value-Some.value) ≡ c.in-Value-Some.value = omega (arith, ints) in
+    let h = rw e at c.take_value.ensures in
+    rw c.in-Value-Some.is-0 (rw c.in-Value-Some.is-1 (h, refl))
 
 pub returns : goal.returns
-returns g c = elim c.match-command.branch [ in-Add w ↦ search rules | in-Grow w ↦ search rules | in-Point w ↦ search rules | in-Sum w ↦ search rules | in-Mean w ↦ search rules ]
+returns g c = elim c.match-command.branch [ in-Add-default w ↦ search rules | in-GiveUp-Some w ↦ search rules | in-Grow-default w ↦ search rules | in-Point-default w ↦ search rules | in-Sum-default w ↦ search rules | in-Mean-default w ↦ search rules ]

@@ -6,5 +6,5 @@ use Rattle.flat.proofs.zeros.count_zeros.Goals as goal
 
 pub returns : goal.returns
 returns c =
-    let counted : c.count.result ≡ count_by (λ (z : ℤ). nat_eq (weight z) 0) (take c.args.cells c.args.numbers.now) = search rules in
+    let counted : c.unwrap.result ≡ count_by (λ (z : ℤ). nat_eq (weight z) 0) (take c.args.cells c.args.numbers.now) = search rules in
     ap (λ (k : ℕ). k + filled (number_at c.args.numbers.now) c.args.cells) counted ∙ zeros_counted c.args.numbers.now c.args.cells c.requires

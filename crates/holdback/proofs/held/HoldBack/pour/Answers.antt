@@ -1,11 +1,10 @@
-use Rattle.std.proofs.Common.{◌≡◌, ℕ, ◌<◌, List, ap, ◌∙◌, subst, arith, w64, SFits, rules}
+use Rattle.std.proofs.Common.{◌≡◌, ◌<◌, List, ap, ◌∙◌, subst, arith, w64, SFits, rules}
 use Rattle.std.proofs.lemmas.List.{get_or-take}
 use Rattle.std.proofs.lemmas.Int.{to_z-of_z}
 use Rattle.store.specs.declared.entry.Entry.{Entry}
-use Rattle.store.specs.Meaning.{Same, Writes}
+use Rattle.store.specs.Meaning.{Writes}
 use Rattle.store.specs.Table.{entry_at}
 use Rattle.store.proofs.Tidy.{tidy}
-use Rattle.holdback.specs.Over.{held_over}
 use Rattle.holdback.proofs.Poured.{pour_none, pour_step}
 use Rattle.holdback.proofs.held.HoldBack.pour.Goals as goal
 

@@ -2,9 +2,10 @@ use Rattle.std.proofs.Common.{◌+◌, ◌-◌, ◌/◌, ◌^◌, ◌≡◌, ◌
 use native.Mathlib.Nat.{div-eq_of_lt}
 use Rattle.std.proofs.lemmas.Int.{to_z-of_z}
 use Rattle.haar.specs.Tree.{S, D}
-use Rattle.loads.specs.Transform.{unhaar, Near}
-use Rattle.loads.specs.Share.{alone}
-use Rattle.loads.proofs.Shares.{sum_near, difference_near, pair_fits, halved, down_left, down_right, index_up}
+use Rattle.loads.specs.Transform.{Near}
+use Rattle.loads.specs.Tree.{alone_of}
+use Rattle.loads.proofs.Machine.{pair_fits, halved}
+use Rattle.loads.proofs.Shares.{sum_near, difference_near, down_left, down_right, index_up}
 use Rattle.loads.proofs.share.ChunkTree.sum_at.Goals as goal
 use Rattle.loads.proofs.share.ChunkTree.sum_at.Goals.{After-difference_at-difference}
 
@@ -12,7 +13,7 @@ pub loop-half-init : goal.loop-half-init
 loop-half-init c =
     let f : SFits w64 c.whole_sum-sum.result = search rules in
     let t = c.args.self.now in
-    (c.requires.0, to_z-of_z w64 _ f ∙ c.whole_sum-sum.ensures.is ∙ ap (S (alone (unhaar t.reach.level t.numbers.now)) t.reach.level) (sym (div-eq_of_lt c.requires.1)))
+    (c.requires.0, to_z-of_z w64 _ f ∙ c.whole_sum-sum.ensures.is ∙ ap (S (alone_of t) t.reach.level) (sym (div-eq_of_lt c.requires.1)))
 
 pub difference_at-difference-requires : goal.difference_at-difference-requires
 difference_at-difference-requires c =
@@ -20,7 +21,7 @@ difference_at-difference-requires c =
     (omega arith, (omega arith, index_up r.level (c.loop-half.half - 1 + 1) c.args.level c.args.index (omega arith) (omega arith) c.requires.1))
 
 -- the difference below the sum, as the machine has it
-is : (c : After-difference_at-difference) → let t = c.args.self.now in to_z w64 (of_z w64 c.difference_at-difference.result) ≡ D (alone (unhaar t.reach.level t.numbers.now)) (c.loop-half.half - 1 + 1) (c.args.index / 2 ^ (c.loop-half.half - 1 + 1 - c.args.level))
+is : (c : After-difference_at-difference) → let t = c.args.self.now in to_z w64 (of_z w64 c.difference_at-difference.result) ≡ D (alone_of t) (c.loop-half.half - 1 + 1) (c.args.index / 2 ^ (c.loop-half.half - 1 + 1 - c.args.level))
 is c = let f : SFits w64 c.difference_at-difference.result = search rules in to_z-of_z w64 _ f ∙ c.difference_at-difference.ensures
 
 fits : (c : After-difference_at-difference) → let s = to_z w64 c.loop-half.sum-bits in let d = to_z w64 (of_z w64 c.difference_at-difference.result) in SFits w64 (s +ℤ d) × SFits w64 (s -ℤ d)

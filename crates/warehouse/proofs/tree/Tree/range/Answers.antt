@@ -2,18 +2,14 @@ use Rattle.std.proofs.Common.{◌+◌, sym, ap, ◌∙◌, arith}
 use Rattle.std.proofs.lemmas.Nat.{one_shl}
 use Rattle.std.proofs.lemmas.Result.{err_from_is_err_and}
 use Rattle.warehouse.specs.Read.{look}
-use Rattle.warehouse.proofs.Pieces.{below_top}
 use Rattle.warehouse.proofs.Progress.{added_fits, added, small_sum, so_far_all, piece_small, piece_inside, piece_lost, piece_more}
 use Rattle.warehouse.proofs.tree.Tree.range.Goals as goal
-
-pub longest-level-requires : goal.longest-level-requires
-longest-level-requires g c = (c.args.self.now.most, below_top _ _ _ c.args.self.now.most c.requires.inside c.loop-at-test.true)
 
 pub piece-requires : goal.piece-requires
 piece-requires g c =
     let m = g.S.Store.means c.args.self.now.store.now in
     let p = piece_inside m.bands _ (look m) _ _ c.args.self.now.most c.requires.inside _ _ c.loop-at.invariant c.loop-at-test.true _ c.longest-level.ensures.is in
-    record { low = p.0; inside = p.1 }
+    (p.0, p.1)
 
 pub returns-in_err-piece : goal.returns-in_err-piece
 returns-in_err-piece g c =

@@ -8,14 +8,14 @@ use Rattle.warehouse.proofs.tree.Tree.sum.Goals as goal
 pub unwrap-first-requires : goal.unwrap-first-requires
 unwrap-first-requires g c =
     let m = g.S.Store.means c.args.self.now.store.now in
-    let t = tree_here m.bands c.args.self.now.size c.args.level c.args.index c.bands.ensures.lawful.few c.requires.low c.args.self.now.fits c.requires.inside in
+    let t = tree_here m.bands c.args.self.now.size c.args.level c.args.index c.bands.ensures.lawful.few c.requires.0 c.args.self.now.fits c.requires.1 in
     first_there m.bands _ _ _ _ c.bands.ensures.is t c.sum_cell.ensures
 
 pub returns-in_err-sum : goal.returns-in_err-sum
 returns-in_err-sum g c =
     let m = g.S.Store.means c.args.self.now.store.now in
     let p = err_from_is_err_and c.from_residual.result c.from_residual.ensures.1 in
-    let t = tree_here m.bands c.args.self.now.size c.args.level c.args.index c.bands.ensures.lawful.few c.requires.low c.args.self.now.fits c.requires.inside in
+    let t = tree_here m.bands c.args.self.now.size c.args.level c.args.index c.bands.ensures.lawful.few c.requires.0 c.args.self.now.fits c.requires.1 in
     let e = first_found m.bands _ _ _ _ c.bands.ensures.is t c.sum_cell.ensures _ c.unwrap-first.ensures in
     rw (p.1, p.2) (way_lost m.bands c.args.self.now.size (look m) c.args.level c.args.index (start c.args.self.now.size c.args.level - c.args.level) c.in_err-sum.field-0.0 (omega arith)
     (sym c.in_err-sum.was ∙ c.seen.ensures ∙ way_first m.bands c.args.self.now.size (look m) c.args.level c.args.index _ _ e refl))
@@ -24,7 +24,7 @@ pub loop-below-init : goal.loop-below-init
 loop-below-init g c =
     let m = g.S.Store.means c.args.self.now.store.now in
     let f : SFits w64 c.in_ok-sum.sum = search rules in
-    let t = tree_here m.bands c.args.self.now.size c.args.level c.args.index c.bands.ensures.lawful.few c.requires.low c.args.self.now.fits c.requires.inside in
+    let t = tree_here m.bands c.args.self.now.size c.args.level c.args.index c.bands.ensures.lawful.few c.requires.0 c.args.self.now.fits c.requires.1 in
     let e = first_found m.bands _ _ _ _ c.bands.ensures.is t c.sum_cell.ensures _ c.unwrap-first.ensures in
     let r = c.reading_start.ensures.is in
     ap Ok (to_z-of_z w64 c.in_ok-sum.sum f) ∙ sym c.in_ok-sum.was ∙ c.seen.ensures
@@ -37,7 +37,7 @@ lowered-requires g c =
     let k = c.loop-below.auto.below in
     let t = c.loop-below-test.true in
     record {
-      tree = tree_over m.bands c.args.self.now.size c.args.level c.args.index c.bands.ensures.lawful.few c.requires.low c.args.self.now.fits c.requires.inside (c.loop-below.below - 1) (omega arith);
+      tree = tree_over m.bands c.args.self.now.size c.args.level c.args.index c.bands.ensures.lawful.few c.requires.0 c.args.self.now.fits c.requires.1 (c.loop-below.below - 1) (omega arith);
       small = way_small m.bands c.args.self.now.size (look m) c.args.level c.args.index c.loop-below.below _ c.loop-below.invariant;
     }
 

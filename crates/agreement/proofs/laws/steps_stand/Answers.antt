@@ -1,5 +1,0 @@
-use Rattle.agreement.proofs.Calls.{steps}
-use Rattle.agreement.proofs.laws.steps_stand.Goals as goal
-
-pub returns : goal.returns
-returns c = steps

@@ -1,0 +1,77 @@
+// Many random feeds recounted, and how often each refusal came in them.
+use crate::draft::Draft;
+use crate::feeds::draw_feed;
+use crate::lines::{Difference, Expectation};
+use crate::recounting::{Recounted, recount};
+use compare::comparison::Comparison;
+use std::alloc::Global;
+use wire::line::Line;
+
+const SEED: u64 = 0x9e37_79b9_7f4a_7c15;
+
+#[derive(Drop)]
+pub(crate) struct Coverage {
+    pub(crate) lines: u64,
+    pub(crate) differ: u64,
+    // with the number of its feed
+    pub(crate) first: Option<(u32, Difference)>,
+    // feeds after which the two warehouses share every cell, and nothing was refused in the flat store
+    pub(crate) alike: u64,
+    // by the refusal's number
+    refusals: [u64; 32],
+}
+
+impl Coverage {
+    fn new() -> Coverage {
+        Coverage {
+            lines: 0,
+            differ: 0,
+            first: None,
+            alike: 0,
+            refusals: [0; 32],
+        }
+    }
+
+    // How often a refusal came.
+    pub(crate) fn of(&self, number: u8) -> u64 {
+        self.refusals.get(usize::from(number)).copied().unwrap_or(0)
+    }
+
+    fn note_refusal(&mut self, number: u8) {
+        if let Some(count) = self.refusals.get_mut(usize::from(number)) {
+            *count = count.saturating_add(1);
+        }
+    }
+
+    fn note_lines(&mut self, expected: &[Expectation]) {
+        for expectation in expected {
+            if let Line::Refused { number, .. } = expectation.line {
+                self.note_refusal(number);
+            }
+        }
+    }
+
+    fn note(&mut self, feed: u32, recounted: Recounted) {
+        self.note_lines(&recounted.expected);
+        let Recounted { texts, twice, .. } = recounted;
+        self.lines = self.lines.saturating_add(texts.lines);
+        self.differ = self.differ.saturating_add(texts.differ);
+        if self.first.is_none() {
+            self.first = texts.first.map(|first| (feed, first));
+        }
+        if twice.found == Comparison::Alike && twice.refused == 0 {
+            self.alike = self.alike.saturating_add(1);
+        }
+    }
+}
+
+// So many random feeds.
+pub(crate) fn cover(heap: Global, feeds: u32) -> anyhow::Result<Coverage> {
+    let mut coverage = Coverage::new();
+    let mut draft = Draft::new(heap, SEED);
+    for number in 0..feeds {
+        draw_feed(&mut draft, number)?;
+        coverage.note(number, recount(heap, &draft.bytes)?);
+    }
+    Ok(coverage)
+}

@@ -18,10 +18,10 @@ fn input(rt: &HostRuntime) -> anyhow::Result<Vec<u8>> {
 
 fn run(rt: &HostRuntime) -> anyhow::Result<()> {
     let mut args = env::args(rt)?.skip(1);
-    let (Some(task), None) = (args.next(), args.next()) else {
+    let (Some(way), None) = (args.next(), args.next()) else {
         bail!("{USAGE}");
     };
-    let output = match task.as_str() {
+    let output = match way.as_str() {
         "write" => feed_of(&input(rt)?, rt.alloc())?,
         "read" => text_of(&input(rt)?, rt.alloc())?,
         "explain" => words_of(&input(rt)?, rt.alloc())?,

@@ -24,6 +24,7 @@ impl Source for Input {
     ghost broken = { λ _. Unit {0} };
 
     fn read(&mut self, buffer: &mut [u8]) -> io::Result<usize> {
+        // a `for` that always ends: the form that a read needs, since a signal may come again and again
         for _ in 0..u64::MAX {
             match self.stdin.read(buffer) {
                 // a signal came: nothing was read

@@ -29,6 +29,7 @@ fn read_number(digits: &[u8]) -> Result<u64, Problem>
     if digits.is_empty() {
         return Err(Problem::NotNumber);
     }
+    // by hand: std's parse takes a `+`, and says of a long word that it is too large where a later byte is no digit
     let mut n = 0;
     'digits: for &digit in digits {
         if !digit.is_ascii_digit() {

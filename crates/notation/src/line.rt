@@ -22,6 +22,7 @@ fn finished<T: Drop>(value: T, rest: &[u8]) -> Result<T, Misread>
     }
 }
 
+// No function for two fields: their types differ by command.
 fn read_command(letter: u8, rest: &[u8]) -> Result<Command, Misread>
     ensures { result ≡ command_by rows letter rest.now }
 {

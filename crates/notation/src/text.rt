@@ -35,7 +35,7 @@ pub fn text_of(feed: &[u8], heap: Global) -> Result<Vec<u8>, AllocError>
 {
     let mut text = String::new(heap);
     let mut rest = feed;
-    // `decode` gives the rest with the command: an iterator of commands would carry both
+    // by a loop: `decode` gives the rest with the command, so that an iterator would keep a state that stands here already
     'commands: while let Ok((command, after)) = decode(rest) {
         writeln!(text, "{}", CommandLine(command))?;
         rest = after;

@@ -7,7 +7,7 @@ use std::fmt;
 use wire::command::{Command, DecodeFault};
 use wire::decode::decode;
 
-// What a command says, with its numbers.
+// What a command says, with its numbers. Apart from its line of text: no two arms share a word.
 #[derive(Clone, Copy)]
 struct Phrase(Command);
 
@@ -56,7 +56,7 @@ pub fn words_of(feed: &[u8], heap: Global) -> Result<Vec<u8>, AllocError>
 {
     let mut words = String::new(heap);
     let mut rest = feed;
-    // `decode` gives the rest with the command: an iterator of commands would carry both
+    // by a loop: `decode` gives the rest with the command, so that an iterator would keep a state that stands here already
     'commands: while !rest.is_empty() {
         let at = feed.len() - rest.len();
         match decode(rest) {

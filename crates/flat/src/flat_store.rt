@@ -24,7 +24,7 @@ impl Store for Flat<'_> {
         Ok(self.numbers[cell as usize])
     }
 
-    // never full: a zero cell is room for its own number
+    // Never full: a zero cell is room for its own number. `lender` says that the same loan comes back: no type can.
     fn write(&mut self, cell: u32, value: i64) -> Result<(), CellFault>
         ensures writes { Writes (flat_means self.old) cell value result (flat_means self.new) }
         ensures lender { self.new.numbers.ghost_name ≡ self.old.numbers.ghost_name }

@@ -19,7 +19,7 @@ pub fn cell_count(bands: u8) -> u32
 }
 
 // Whether the interval (level, index) lies inside a size.
-// The two stay apart, also below: each caller works out both anew, and a struct would be made at the call to be taken apart.
+// The two stay apart, also below: most callers work out both anew, so that a struct would be made at the call to be taken apart.
 pub fn is_inside(size: u8, level: u8, index: u32) -> bool
     ensures { IsTrue result ↔ InSize size level index }
 {

@@ -66,6 +66,7 @@ pub struct Transformed<'a> {
 }
 
 impl<'a> Transformed<'a> {
+    // `same_buffer` says that the same loan comes back: no type can.
     pub(crate) fn of(values: &'a mut [i64], reach: Reach) -> Transformed<'a>
         requires { (length values.old ≡ 2 ^ reach.level) × (Within (2 ^ 31) values.old) }
         ensures same_buffer { result.numbers.ghost_name ≡ values.entry.ghost_name }

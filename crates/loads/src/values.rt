@@ -22,7 +22,7 @@ fn first_outside(values: &[i64]) -> Option<u32>
     u32::try_from(place).ok()
 }
 
-// Level and index stay apart: `finished` takes them out of its open load, so that only `add_point` would make a struct of them.
+// Level and index stay apart, since there is no `Reach` yet: `finished` takes them out of its open load, and only `add_point` would make a struct.
 pub(crate) fn add_values<S: Store>(
     warehouse: &mut Warehouse<S>,
     level: u8,

@@ -4,7 +4,7 @@ ghost use Rattle.wire.specs.Decode.{decoded};
 
 use crate::command::{Command, DecodeFault};
 
-// The command at the front of `bytes`, and the bytes after it. Three commands read two numbers each: a helper for them would
+// The command at the front of `bytes`, and the bytes after it. Three commands read two numbers each: a function for them would
 // have to take the eight bytes apart again.
 pub fn decode(bytes: &[u8]) -> Result<(Command, &[u8]), DecodeFault>
     ensures { elim result [ Ok p ↦ decoded bytes.now ≡ Ok (p.0, p.1.now) | Err e ↦ decoded bytes.now ≡ Err e ] }

@@ -7,7 +7,7 @@ use crate::line::{Line, LineFault};
 use arrayvec::ArrayString;
 use itoa::{Buffer, Integer};
 
-// The longest line has 34 bytes.
+// Room for every line: a letter, two numbers of the longest types, two spaces and a newline have no more bytes.
 pub const LINE: usize = 48;
 
 type Text = ArrayString<LINE>;

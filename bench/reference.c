@@ -1,5 +1,6 @@
-/* The benchmark's work once more, plainly, in C: cells in an array, no layers, no proofs. The same checks of values and cells as
-   the warehouse makes, and the same checksums. With the argument "time" each line has nanoseconds too. */
+/* The benchmark's work once more, plainly, in C, without proofs: cells in an array, or in the pile's two sorted tables. The same
+   checks of values and cells as the warehouse makes, and the same checksums. With the argument "time" each line has
+   nanoseconds too. */
 #include <stdint.h>
 #include <stdio.h>
 #include <stdlib.h>
@@ -10,11 +11,93 @@ enum { LARGEST = 4096, TOUCHED = 4096 + 300 };
 
 static const int64_t LIMIT = (int64_t)1 << 56;
 
+/* a table of numbers by cell, in rising order of cells; none of them is zero */
+struct table {
+    uint32_t cells[1024];
+    int64_t numbers[1024];
+    int used, most;
+};
+
+/* a table that holds numbers back over one that they come to */
+struct pile {
+    struct table held, below;
+};
+
+/* its cells lie in an array, with `room` zeros, or else in a pile */
 struct tree {
     int bands, size;
     int64_t *cells;
     int64_t room;
+    struct pile *pile;
 };
+
+/* where the cell is, or would be */
+static int place_of(const struct table *t, uint32_t cell)
+{
+    int low = 0, high = t->used;
+    while (low < high) {
+        int middle = (low + high) / 2;
+        if (t->cells[middle] < cell)
+            low = middle + 1;
+        else
+            high = middle;
+    }
+    return low;
+}
+
+static int has(const struct table *t, int at, uint32_t cell) { return at < t->used && t->cells[at] == cell; }
+
+static int64_t number_in(const struct table *t, uint32_t cell)
+{
+    int at = place_of(t, cell);
+    return has(t, at, cell) ? t->numbers[at] : 0;
+}
+
+/* 0 where the table is full */
+static int put(struct table *t, uint32_t cell, int64_t number)
+{
+    int at = place_of(t, cell), there = has(t, at, cell), after = t->used - at;
+    if (number == 0) {
+        if (there) {
+            memmove(t->cells + at, t->cells + at + 1, (after - 1) * sizeof *t->cells);
+            memmove(t->numbers + at, t->numbers + at + 1, (after - 1) * sizeof *t->numbers);
+            t->used--;
+        }
+        return 1;
+    }
+    if (!there) {
+        if (t->used == t->most)
+            return 0;
+        memmove(t->cells + at + 1, t->cells + at, after * sizeof *t->cells);
+        memmove(t->numbers + at + 1, t->numbers + at, after * sizeof *t->numbers);
+        t->cells[at] = cell;
+        t->used++;
+    }
+    t->numbers[at] = number;
+    return 1;
+}
+
+static int64_t pile_read(const struct pile *p, uint32_t cell)
+{
+    int64_t held = number_in(&p->held, cell);
+    return held != 0 ? held : number_in(&p->below, cell);
+}
+
+static int64_t pile_room(const struct pile *p)
+{
+    int64_t room = p->below.most - p->below.used;
+    for (int i = 0; i < p->held.used; i++)
+        room -= number_in(&p->below, p->held.cells[i]) == 0;
+    return room;
+}
+
+static void pile_write(struct pile *p, uint32_t cell, int64_t number)
+{
+    if (number == 0)
+        put(&p->held, cell, 0);
+    if (number == 0 || !put(&p->held, cell, number))
+        put(&p->below, cell, number);
+}
 
 static int64_t values[LARGEST], tree[LARGEST], shares[TOUCHED];
 static uint32_t touched[TOUCHED];
@@ -83,6 +166,22 @@ static int touch(const struct tree *t, int level, uint32_t index)
     return many;
 }
 
+static int pile_load(struct pile *p, int many)
+{
+    int64_t fresh = 0;
+    for (int i = 0; i < many; i++) {
+        int64_t old = pile_read(p, touched[i]), new = old + shares[i];
+        if (new < -LIMIT || new > LIMIT)
+            return 0;
+        fresh += old == 0 && new != 0;
+    }
+    if (fresh > pile_room(p))
+        return 0;
+    for (int i = 0; i < many; i++)
+        pile_write(p, touched[i], pile_read(p, touched[i]) + shares[i]);
+    return many;
+}
+
 /* adds the values of the chunk, or changes nothing: how many cells were written, or 0 */
 static int load(struct tree *t, int level, uint32_t index)
 {
@@ -93,6 +192,8 @@ static int load(struct tree *t, int level, uint32_t index)
             return 0;
     transform(level);
     int many = touch(t, level, index);
+    if (t->pile)
+        return pile_load(t->pile, many);
     int64_t fresh = 0, gone = 0;
     for (int i = 0; i < many; i++) {
         int64_t old = t->cells[touched[i]], new = old + shares[i];
@@ -109,24 +210,34 @@ static int load(struct tree *t, int level, uint32_t index)
     return many;
 }
 
+static inline int64_t number(const struct tree *t, const struct pile *p, uint32_t cell)
+{
+    return p ? pile_read(p, cell) : t->cells[cell];
+}
+
 /* S(level, index), with the cells read for it; -1 cells where they cannot belong to a sum */
-static int64_t read_sum(const struct tree *t, int level, uint32_t index, int *cells)
+static inline int64_t sum_in(const struct tree *t, const struct pile *p, int level, uint32_t index, int *cells)
 {
     int top = (level > 0 ? (level - 1) / 4 : 0) * 4 + 4;
     if (top > t->size)
         top = t->size;
-    int64_t sum = t->cells[sum_cell(t->bands, level, index)];
+    int64_t sum = number(t, p, sum_cell(t->bands, level, index));
     if (sum < -LIMIT || sum > LIMIT)
         return *cells = -1;
     *cells += 1;
     for (int j = top; j > level; j--) {
-        int64_t d = t->cells[difference_cell(t->bands, j, index >> (j - level))];
+        int64_t d = number(t, p, difference_cell(t->bands, j, index >> (j - level)));
         if (d < -LIMIT || d > LIMIT || (sum + d) % 2 != 0)
             return *cells = -1;
         sum = (index >> (j - 1 - level)) % 2 == 0 ? (sum + d) / 2 : (sum - d) / 2;
         *cells += 1;
     }
     return sum;
+}
+
+static int64_t read_sum(const struct tree *t, int level, uint32_t index, int *cells)
+{
+    return t->pile ? sum_in(t, t->pile, level, index, cells) : sum_in(t, NULL, level, index, cells);
 }
 
 static int64_t read_range(const struct tree *t, uint32_t from, uint32_t to, int *cells)
@@ -206,6 +317,9 @@ static void floor_years(struct tree *t)
             draw_values(6);
             note(load(t, 6, index));
         }
+    int cells = 0;
+    note(read_range(t, 1000, 900000, &cells));
+    note(cells);
 }
 
 static int timed;
@@ -238,9 +352,10 @@ static void end(const char *name)
 int main(int argc, char **argv)
 {
     timed = argc > 1 && strcmp(argv[1], "time") == 0;
-    struct tree flat = { 5, 20, calloc(1118480, sizeof(int64_t)), 1118480 };
-    struct tree pile = { 3, 12, calloc(4368, sizeof(int64_t)), 1024 };
-    if (!flat.cells || !pile.cells)
+    static struct pile tables = { .held.most = 64, .below.most = 1024 };
+    struct tree flat = { 5, 20, calloc(1118480, sizeof(int64_t)), 1118480, NULL };
+    struct tree pile = { 3, 12, NULL, 0, &tables };
+    if (!flat.cells)
         return 1;
     begin(); loads(&flat, 6, 1u << 14, 20000); end("flat-loads-6");
     begin(); loads(&flat, 12, 1u << 8, 500); end("flat-loads-12");

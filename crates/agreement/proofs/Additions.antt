@@ -1,10 +1,10 @@
 -- An addition that is refused or accepted as its contract says makes the step.
-use Rattle.std.proofs.Common.{◌≡◌, ℕ, ◌+◌, ◌-◌, ◌*◌, ◌^◌, ◌<◌, ◌≤◌, Bool, true, false, cond, not, ltb, List, [], ◌∷◌, map, get_or, ℤ, pos, negsuc, ◌+ℤ◌, nat_abs, ◌≤ℤ◌, ◌<ℤ◌, Some, None, Ok, Err, Option, Result, sym, refl, ap, ◌∙◌, subst, ap₂, ⊎_elim, arith}
+use Rattle.std.proofs.Common.{◌≡◌, ℕ, ◌+◌, ◌-◌, ◌*◌, ◌^◌, ◌<◌, ◌≤◌, Bool, true, false, cond, not, ltb, List, [], ◌∷◌, map, get_or, ℤ, pos, ◌+ℤ◌, nat_abs, ◌≤ℤ◌, ◌<ℤ◌, Some, None, Ok, Err, Option, Result, sym, refl, ap, ◌∙◌, subst, ap₂, ⊎_elim, arith}
 use lib.Signed.{lt_z}
 use mathlib.Core.List.Memᴰ
 use mathlib.Core.List.{Memᴰ}
 use Rattle.std.proofs.lemmas.Int.{ints}
-use Rattle.std.proofs.lemmas.Bool.{cases_lt, cases_Bool, both_ways, lt-ltb, le-ltb, lt-leb, leb-false, not_from_true, not_from_false, cond-false}
+use Rattle.std.proofs.lemmas.Bool.{cases_lt, cases_Bool, both_ways, lt-ltb, le-ltb, not_from_true, not_from_false, cond-false}
 use Rattle.haar.specs.declared.coefficient.Coefficient.{Coefficient}
 use Rattle.haar.specs.declared.coefficient.Coefficient.TheVariants.{TileSum}
 use Rattle.haar.specs.Tiles.{tiles_before, cell_number, cell_count}
@@ -25,58 +25,15 @@ use Rattle.loads.specs.Loads.{Small, Clear, fresh}
 use Rattle.loads.specs.Loads as loads
 use Rattle.loads.specs.Reach.{Meets}
 use Rattle.loads.specs.Share.{minutes}
-use Rattle.agreement.specs.Check.{check, or, first, lowest, at, wide, Write, put, held, load_writes, barred, bar, lowest_barred, newly, chunk_checks}
-use Rattle.agreement.specs.Laws.{Lowest, LowestBarred}
+use Rattle.agreement.specs.Check.{check, first, lowest, at, wide, Write, put, held, load_writes, barred, bar, lowest_barred, newly, chunk_checks}
+use Rattle.agreement.specs.Laws.{LowestBarred}
 use Rattle.agreement.specs.Share.{share}
 use Rattle.agreement.proofs.Cells.{look_below}
 use Rattle.agreement.proofs.Checks.{lies_inside, inside_lies}
 use Rattle.agreement.proofs.Fresh.{along, all_along}
-use Rattle.agreement.proofs.Searches.{lowest_is, barred_is}
+use Rattle.agreement.proofs.Searches.{barred_is}
 use Rattle.agreement.proofs.Shares.{shares}
-
--- a passed check, and one that finds a fault
-pub next : (o rest r : Option Fault) → o ≡ None → rest ≡ r → or o rest ≡ r
-next o rest r e f = ap (λ o. or o rest) e ∙ f
-
-pub hit : (o rest : Option Fault) (f : Fault) → o ≡ Some f → or o rest ≡ Some f
-hit o rest f e = ap (λ o. or o rest) e
-
--- values within their limits
-limited : (z : ℤ) → Limit z → wide z ≡ false
-limited (pos n) l = lt-leb (2 ^ 31) n (omega (arith, ints, l.0, l.1))
-limited (negsuc n) l = lt-leb (2 ^ 31) n (omega (arith, ints, l.0, l.1))
-
-within : (z : ℤ) → wide z ≡ false → Limit z
-within (pos n) e = let h = leb-false (2 ^ 31) n e in (omega (arith, ints), omega (arith, ints))
-within (negsuc n) e = let h = leb-false (2 ^ 31) n e in (omega (arith, ints), omega (arith, ints))
-
-unlimited : (z : ℤ) → (Limit z → ⊥) → wide z ≡ true
-unlimited z out = ⊎_elim (λ e. e) (λ (e : wide z ≡ false). absurd (out (within z e))) (cases_Bool (wide z))
-
--- the lowest number that passes a test, from what it is
-lowest_some : (test : ℕ → Bool) (b c : ℕ) → c < b → test c ≡ true → ((i : ℕ) → i < c → test i ≡ false) → lowest test b ≡ Some c
-lowest_some test b c l e below = go (lowest test b) (lowest_is test b)
-  where
-    go : (o : Option ℕ) → Lowest test b o → o ≡ Some c
-    go None u = absurd (both_ways _ (u c l) e)
-    go (Some d) u =
-        let x : (d < c) → ⊥ = λ h. both_ways _ (below d h) u.1 in
-        let y : (c < d) → ⊥ = λ h. both_ways _ (u.2 c h) e in
-        let q : d ≡ c = ⊎_elim (λ (lt : d < c). absurd (x lt)) (λ (le : c ≤ d). ⊎_elim (λ (lt : c < d). absurd (y lt)) (λ (ge : d ≤ c). omega arith) (cases_lt c d)) (cases_lt d c) in
-        ap Some q
-
-lowest_no : (test : ℕ → Bool) (b : ℕ) → ((i : ℕ) → i < b → test i ≡ false) → lowest test b ≡ None
-lowest_no test b none = go (lowest test b) (lowest_is test b)
-  where
-    go : (o : Option ℕ) → Lowest test b o → o ≡ None
-    go None u = refl
-    go (Some d) u = absurd (both_ways _ (none d u.0) u.1)
-
-pub small_abs : (z : ℤ) → nat_abs z ≤ limit → Small z
-small_abs z h = (omega (arith, ints), omega (arith, ints))
-
-pub abs_small : (z : ℤ) → Small z → nat_abs z ≤ limit
-abs_small z h = omega (arith, ints, h.0, h.1)
+use Rattle.agreement.proofs.Limits.{next, hit, limited, unlimited, lowest_some, lowest_no, small_abs, abs_small}
 
 -- the cells of a chunk inside the size
 module _ (v : View) (m p : ℕ) (zs : List ℤ) (fits : v.size ≤ 4 * v.store.bands) (some : 1 ≤ v.store.bands) (there : Lies v.size m p) where

@@ -6,7 +6,7 @@ use Rattle.std.proofs.lemmas.Bool.{cases_eq, eq-eqb, ne_eqb, cond-true, cond-fal
 use Rattle.haar.specs.Count.{Apart}
 use Rattle.store.specs.Meaning.{weight}
 use Rattle.loads.specs.Loads.{fresh}
-use Rattle.loads.proofs.Fresh.{fresh_gap}
+use Rattle.loads.specs.Skips.{fresh_gap}
 
 -- along a list
 abbrev pub along : (ℕ → ℤ) → (ℕ → ℤ) → List ℕ → ℕ

@@ -19,7 +19,7 @@ use Rattle.agreement.specs.Call.{grow, grown, refused}
 use Rattle.agreement.specs.Check.{check, or, lesser, put, held, total_cell, total, fills, barred, bar, lowest_barred, newly, at, refusal}
 use Rattle.agreement.specs.Reply.{or_refused}
 use Rattle.agreement.specs.Step.{Unchanged, Raised, Step}
-use Rattle.agreement.proofs.Additions.{next, hit, small_abs, abs_small}
+use Rattle.agreement.proofs.Limits.{next, hit, small_abs, abs_small}
 use Rattle.agreement.proofs.Cells.{look_below}
 use Rattle.agreement.proofs.Steps.{accepted, turned_down}
 

@@ -10,6 +10,7 @@ pub mod Searches
 pub mod Worked
 pub mod Edges
 pub mod Fresh
+pub mod Limits
 pub mod Additions
 pub mod Loading
 pub mod Growing

@@ -18,7 +18,8 @@ use Rattle.agreement.specs.Reply.{or_refused, written_reply, finish_reply}
 use Rattle.agreement.specs.Share.{chunk_values}
 use Rattle.agreement.specs.Step.{Unchanged, Added, Step}
 use Rattle.agreement.specs.Steps.{Fits}
-use Rattle.agreement.proofs.Additions.{next, hit, chunk_refused, chunk_accepted}
+use Rattle.agreement.proofs.Additions.{chunk_refused, chunk_accepted}
+use Rattle.agreement.proofs.Limits.{next, hit}
 use Rattle.agreement.proofs.Shares.{of_loaded}
 use Rattle.agreement.proofs.Steps.{unchanged, accepted, turned_down}
 

@@ -83,7 +83,8 @@ fn note(draw: &mut Draw, answer: Result<Reading, Refusal>) {
     }
 }
 
-// As many loads as forty machines have in two years, 16,384 chunks of 64 minutes each, all into one warehouse.
+// As many loads as forty machines have in two years, 16,384 chunks of 64 minutes each, all into one warehouse; then a sum of
+// most of it.
 pub(crate) fn floor_years<S: Store>(
     warehouse: &mut Warehouse<S>,
     buffer: &mut [i64],
@@ -93,4 +94,5 @@ pub(crate) fn floor_years<S: Store>(
         let written = load(warehouse, buffer, draw, 6, chunk % 16_384);
         draw.note(i64::from(written));
     }
+    note(draw, warehouse.sum(1_000, 900_000));
 }

@@ -25,6 +25,9 @@ pub trait Sink {
     // the bytes that it may have been given
     ghost took: { Self → List ℕ → Type 0 };
 
+    // it holds nothing back
+    ghost handed: { Self → Type 0 };
+
     // it does not answer
     ghost stuck: { Self → Type 0 };
 
@@ -34,5 +37,5 @@ pub trait Sink {
 
     // Hands on what it holds back.
     fn flush(&mut self) -> Result<(), Self::Error>
-        ensures { Flushes (took self.old) (took self.new) (stuck self.new) result };
+        ensures { Flushes (took self.old) (took self.new) (handed self.new) (stuck self.new) result };
 }

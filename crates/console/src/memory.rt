@@ -68,8 +68,11 @@ impl Sink for Page {
 
     ghost took = { λ p w. w ≡ p.bytes.items };
 
+    ghost handed = { λ _. Unit {0} };
+
     ghost stuck = { λ p. p.is_full ≡ true };
 
+    // An Err is open: no clause says when memory ends.
     fn write(&mut self, bytes: &[u8]) -> Result<(), AllocError>
         ensures taken { Takes (λ w. w ≡ self.old.bytes.items) (λ w. w ≡ self.new.bytes.items) (self.new.is_full ≡ true) bytes.now result }
         ensures whole { result ≡ Ok tt → self.new.is_full ≡ self.old.is_full }
@@ -82,7 +85,7 @@ impl Sink for Page {
 
     // A page that lost bytes says so whenever it is asked.
     fn flush(&mut self) -> Result<(), AllocError>
-        ensures flushed { Flushes (λ w. w ≡ self.old.bytes.items) (λ w. w ≡ self.new.bytes.items) (self.new.is_full ≡ true) result }
+        ensures flushed { Flushes (λ w. w ≡ self.old.bytes.items) (λ w. w ≡ self.new.bytes.items) (Unit {0}) (self.new.is_full ≡ true) result }
         ensures whole { self.old.is_full ≡ false → result ≡ Ok tt }
         ensures lost { self.old.is_full ≡ true → result ≢ Ok tt }
         ensures kept { self.new.bytes.items ≡ self.old.bytes.items }

@@ -15,10 +15,12 @@ impl<'a> Flat<'a> {
         ensures same { result.numbers.now ≡ numbers.old }
     {
         let bands = most_bands(numbers.len());
-        let zeros = count_zeros(numbers, cell_count(bands));
+        let count = cell_count(bands);
+        let zeros = count_zeros(numbers, count);
         Flat {
             numbers,
             bands,
+            count,
             zeros,
         }
     }

@@ -1,24 +1,44 @@
 // A console feed on standard input, its lines on standard output.
 #![tactic(auto)]
 
+ghost use Rattle.std.specs.Prelude.{◌≡◌, pos, IfOk, length};
+ghost use Rattle.store.specs.SparseMeaning.{sparse_means};
+ghost use Rattle.holdback.specs.Layer.{layer_means};
+
 mod standard;
 
 use console::running::run;
 use holdback::held::HoldBack;
 use standard::{Input, Output};
+use std::alloc::{AllocError, Global};
 use store::sparse::Sparse;
 
-// The size at which the warehouse is founded, and the values of the largest load.
+// The size at which the warehouse is founded.
 const SIZE: u8 = 4;
 
+// The values of the largest load.
 const VALUES: usize = 4096;
 
+// The pile of the rules.
+fn pile() -> HoldBack<Sparse>
+    ensures bands { (layer_means sparse_means result).bands ≡ 3 }
+    ensures room { (layer_means sparse_means result).room ≡ pos 1024 }
+{
+    HoldBack::new(Sparse::new(3, 1024))
+}
+
+// The buffer of the largest load.
+fn buffer(heap: Global) -> Result<Vec<i64>, AllocError>
+    ensures { IfOk result (λ values. length values.items ≡ 4096) }
+{
+    Ok(vec![in heap; 0i64; VALUES]?)
+}
+
 fn fed(rt: &HostRuntime) -> anyhow::Result<()> {
-    let mut buffer = vec![in rt.alloc(); 0i64; VALUES]?;
+    let mut buffer = buffer(rt.alloc())?;
     let mut input = Input::new(rt.stdin());
     let mut output = Output::new(rt.alloc(), rt.stdout())?;
-    let store = HoldBack::new(Sparse::new(3, 1024));
-    run(store, SIZE, &mut buffer, &mut input, &mut output)?;
+    run(pile(), SIZE, &mut buffer, &mut input, &mut output)?;
     Ok(())
 }
 

@@ -1,5 +1,8 @@
 // Standard input as a source, standard output as a sink. What they give and take is the operating system's word, so the
-// source may give any bytes, and the sink may have any.
+// source may give any bytes, and the sink may have any. After a flush the buffer is empty.
+ghost use Rattle.std.specs.Prelude.{◌≡◌, []};
+ghost use Rattle.std.specs.Io.Buffered.{writer_buffer};
+
 use console::ends::{Sink, Source};
 use std::alloc::Global;
 use std::io;
@@ -53,6 +56,8 @@ impl Sink for Output {
     type Error = io::Error;
 
     ghost took = { λ _ _. Unit {0} };
+
+    ghost handed = { λ o. writer_buffer o.stdout ≡ [] };
 
     ghost stuck = { λ _. Unit {0} };
 

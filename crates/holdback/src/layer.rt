@@ -1,5 +1,5 @@
 // The layer's calls as a store.
-ghost use Rattle.std.specs.Prelude.{◌≡◌, pos, ◌<ℤ◌, ◌≢◌};
+ghost use Rattle.std.specs.Prelude.{◌≡◌, pos, ◌<ℤ◌, Ok, Err};
 ghost use Rattle.store.specs.Meaning.{Writes, Settles};
 ghost use Rattle.holdback.specs.Laws.{layer_lawful};
 ghost use Rattle.holdback.specs.Layer.{layer_means, Goes, Untouched};
@@ -10,6 +10,8 @@ use store::interface::Store;
 
 impl<S: Store> Store for HoldBack<S> {
     ghost means = { layer_means S.Store.means };
+
+    ghost puts = { Goes S.Store.means S.Store.puts };
 
     ghost laws = { λ h. layer_lawful _ _ _ (S.Store.laws h.below) };
 
@@ -25,7 +27,8 @@ impl<S: Store> Store for HoldBack<S> {
     // A number is held if its cell is held already or an entry is free, and else goes below; zero goes to both.
     fn write(&mut self, cell: u32, value: i64) -> Result<(), CellFault>
         ensures writes { Writes (layer_means S.Store.means self.old) cell value result (layer_means S.Store.means self.new) }
-        ensures goes { (value ≢ pos 0) → Goes cell self.old self.new }
+        ensures goes { result ≡ Ok tt → Goes S.Store.means S.Store.puts self.old cell value self.new }
+        ensures refused { (f : CellFault) → result ≡ Err f → Untouched self.old self.new }
     {
         check_cell(self.below.bands(), cell)?;
         if value == 0 {

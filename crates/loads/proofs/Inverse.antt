@@ -1,4 +1,4 @@
-use Rattle.std.proofs.Common.{◌≡◌, ℕ, zero, suc, ◌+◌, ◌-◌, ◌*◌, ◌/◌, ◌^◌, ◌<◌, ◌≤◌, ◌≢◌, List, ◌++◌, length, get_or, take, drop, set, ℤ, pos, negsuc, ◌+ℤ◌, ◌-ℤ◌, neg_ℤ, sym, refl, ap, ◌∙◌, subst, inl, inr, mul_assoc, add-one, arith, pow_pos, pow_mono, pow-add}
+use Rattle.std.proofs.Common.{◌≡◌, ℕ, zero, suc, ◌+◌, ◌-◌, ◌*◌, ◌/◌, ◌^◌, ◌<◌, ◌≤◌, ◌≢◌, List, ◌++◌, length, get_or, take, drop, set, ℤ, pos, negsuc, ◌+ℤ◌, ◌-ℤ◌, neg_ℤ, sym, refl, ap, ◌∙◌, subst, inl, inr, mul_assoc, arith, pow_pos, pow_mono}
 use native.Mathlib.Nat.{two-pow-succ}
 use lib.Signed.{quot_z}
 use Rattle.std.proofs.lemmas.Bool.Decides.{eqb_tells, leb_tells}
@@ -188,27 +188,14 @@ within_unhaar (suc m) b zs l w =
     let y = within_unhaar m b (drop (2 ^ m) ps) (right_length m ps lp) (within_drop b (2 ^ m) ps wp) in
     (length-append (unhaar m (take (2 ^ m) ps)) (unhaar m (drop (2 ^ m) ps)) ∙ omega (arith, x.0, y.0, two-pow-succ m), within_append b _ _ x.1 y.1)
 
--- ---- the steps of the two recursions
-
-pub transform_step : (n h : ℕ) (zs r s : List ℤ) → h ≡ 2 ^ n → r ≡ haar n (take h zs) → s ≡ haar n (drop h zs) → joined h (r ++ s) ≡ haar (suc n) zs
-transform_step n h zs r s e er es =
-    ap (λ (x : List ℤ). joined h (x ++ s)) er ∙ ap (λ (x : List ℤ). joined h (haar n (take h zs) ++ x)) es
-    ∙ ap (λ (x : ℕ). joined x (haar n (take x zs) ++ haar n (drop x zs))) e
-
-pub restore_step : (n h : ℕ) (zs ps r s : List ℤ) → h ≡ 2 ^ n → ps ≡ parted h zs → r ≡ unhaar n (take h ps) → s ≡ unhaar n (drop h ps) → r ++ s ≡ unhaar (suc n) zs
-restore_step n h zs ps r s e ep er es =
-    ap (λ (x : List ℤ). x ++ s) er ∙ ap (λ (x : List ℤ). unhaar n (take h ps) ++ x) es
-    ∙ ap (λ (x : List ℤ). unhaar n (take h x) ++ unhaar n (drop h x)) ep
-    ∙ ap (λ (x : ℕ). unhaar n (take x (parted x zs)) ++ unhaar n (drop x (parted x zs))) e
-
 -- ---- a buffer and its halves
 
-module _ (m h : ℕ) (zs : List ℤ) (ne : m ≡ 0 → ⊥) (l : length zs ≡ 2 ^ m) (e : h ≡ length zs / 2) where
-  up : m - 1 + 1 ≡ m
+module _ (m h : ℕ) (zs : List ℤ) (p : 0 < m) (l : length zs ≡ 2 ^ m) (e : h ≡ length zs / 2) where
+  up : suc (m - 1) ≡ m
   up = omega arith
 
-  twice : length zs ≡ 2 ^ (m - 1) * 2
-  twice = l ∙ ap (λ (k : ℕ). 2 ^ k) (sym up) ∙ pow-add 2 (m - 1) 1
+  twice : length zs ≡ 2 ^ (m - 1) + 2 ^ (m - 1)
+  twice = l ∙ ap (λ (k : ℕ). 2 ^ k) (sym up) ∙ two-pow-succ (m - 1)
 
   is_half : h ≡ 2 ^ (m - 1)
   is_half = omega (arith, twice)
@@ -227,8 +214,7 @@ module _ (m h : ℕ) (zs : List ℤ) (ne : m ≡ 0 → ⊥) (l : length zs ≡ 2
   module _ (lo hi lo' hi' : List ℤ) (f : lo ≡ take h zs) (g : hi ≡ drop h zs) (f' : lo' ≡ haar (m - 1) lo) (g' : hi' ≡ haar (m - 1) hi) where
     pub joined_haar : joined h (lo' ++ hi') ≡ haar m zs
     joined_haar =
-        transform_step (m - 1) h zs lo' hi' is_half (f' ∙ ap (λ (x : List ℤ). haar (m - 1) x) f) (g' ∙ ap (λ (x : List ℤ). haar (m - 1) x) g)
-        ∙ ap (λ (k : ℕ). haar k zs) (sym (add-one (m - 1)) ∙ up)
+        cc (is_half, ap (λ (k : ℕ). haar k zs) (sym up))
 
     pub joinable : m ≤ 12 → Within (2 ^ 31) zs → (0 < h) × ((h < length (lo' ++ hi')) × Within (2 ^ 61) (lo' ++ hi'))
     joinable k w =
@@ -243,7 +229,20 @@ module _ (m h : ℕ) (zs : List ℤ) (ne : m ≡ 0 → ⊥) (l : length zs ≡ 2
         let lab = length-append lo' hi' in
         (between.0, (omega (arith, is_half), within_more (2 ^ 31 * 2 ^ (m - 1)) (2 ^ 61) (lo' ++ hi') (omega arith) (within_append (2 ^ 31 * 2 ^ (m - 1)) lo' hi' wa wb)))
 
+  -- once the first pair came back
+  whole : (b : ℕ) (ps : List ℤ) → Within b zs → ps ≡ parted h zs → (length ps ≡ 2 ^ m) × Within b ps
+  whole b ps w d = (ap length d ∙ length_parted h zs ∙ l, subst (Within b) (sym d) (within_parted b h zs between.1 w))
+
   pub parted_unhaar : (ps lo hi lo' hi' : List ℤ) → ps ≡ parted h zs → lo ≡ take h ps → hi ≡ drop h ps → lo' ≡ unhaar (m - 1) lo → hi' ≡ unhaar (m - 1) hi → lo' ++ hi' ≡ unhaar m zs
   parted_unhaar ps lo hi lo' hi' d f g f' g' =
-      restore_step (m - 1) h zs ps lo' hi' is_half d (f' ∙ ap (λ (x : List ℤ). unhaar (m - 1) x) f) (g' ∙ ap (λ (x : List ℤ). unhaar (m - 1) x) g)
-      ∙ ap (λ (k : ℕ). unhaar k zs) (sym (add-one (m - 1)) ∙ up)
+      cc (is_half, ap (λ (k : ℕ). unhaar k zs) (sym up))
+
+module _ (m h : ℕ) (zs ps : List ℤ) (p : 0 < m) (l : length zs ≡ 2 ^ m) (e : h ≡ length zs / 2) (d : ps ≡ parted h zs) (b : ℕ) (w : Within b zs) where
+  still : h ≡ length ps / 2
+  still = e ∙ ap (λ (k : ℕ). k / 2) (sym (ap length d ∙ length_parted h zs))
+
+  pub low_back : (lo : List ℤ) → lo ≡ take h ps → (length lo ≡ 2 ^ (m - 1)) × Within b lo
+  low_back lo f = let k = whole m h zs p l e b ps w d in low_half m h ps p k.0 still b lo k.1 f
+
+  pub high_back : (hi : List ℤ) → hi ≡ drop h ps → (length hi ≡ 2 ^ (m - 1)) × Within b hi
+  high_back hi g = let k = whole m h zs p l e b ps w d in high_half m h ps p k.0 still b hi k.1 g

@@ -1,6 +1,9 @@
 pub mod Machine
 pub mod Inverse
 pub mod Meeting
+pub mod Rows
+pub mod Passing
+pub mod Places
 pub mod Splits
 pub mod Shares
 pub mod Fresh

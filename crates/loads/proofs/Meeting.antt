@@ -1,14 +1,17 @@
 -- Where the touched coefficients of a chunk stand: their tiles, and the coefficient of a cell.
-use Rattle.std.proofs.Common.{◌≡◌, ℕ, zero, suc, ◌+◌, ◌-◌, ◌*◌, ◌/◌, ◌%◌, ◌^◌, ◌<◌, ◌≤◌, ◌↔◌, min, max, sym, ap, ◌∙◌, subst, ⊎_elim, mul-le-mul_right, mod-lt, lt_of_mul-lt-mul_right, div-add-mod', div-one, sub-one, arith, pow_pos, pow_mono, pow-add, shr-shr, shr_lt}
+use Rattle.std.proofs.Common.{◌≡◌, ℕ, zero, suc, ◌+◌, ◌-◌, ◌*◌, ◌/◌, ◌%◌, ◌^◌, ◌<◌, ◌≤◌, ◌↔◌, min, max, sym, refl, ap, ◌∙◌, subst, ⊎_elim, mul-le-mul_right, mod-lt, lt_of_mul-lt-mul_right, div-add-mod', div-one, sub-one, arith, pow_pos, pow_mono, pow-add, shr-shr, shr_lt}
+use lib.Pow.{high}
+use lib.Pow.{low as low_part}
+use native.Mathlib.Nat.{two-pow-succ}
 use Rattle.std.proofs.lemmas.Bool.{cases_lt, cases_eq}
 use Rattle.haar.specs.declared.coefficient.Coefficient.{Coefficient}
 use Rattle.haar.specs.declared.coefficient.Coefficient.TheVariants.{TileSum, Difference}
-use Rattle.haar.specs.Tiles.{band, tile, slot, depth, tiles_before, cell_number, Inside}
+use Rattle.haar.specs.Tiles.{band, tile, slot, depth, tiles_before, cell_number, cell_count, Inside}
 use Rattle.haar.specs.Count.{bands_in_use}
-use Rattle.loads.specs.Reach.{Sits, Spans, Meets, Found, FoundIn}
-use Rattle.haar.proofs.Numbers.{sixteen, same_pow, before_suc, before_rises, Placed, injective, inside_placed, inside_below, slot_bound}
+use Rattle.loads.specs.Reach.{Sits, Meets, Gap, first_met, first_cell}
+use Rattle.haar.proofs.Numbers.{sixteen, same_pow, before_suc, before_rises, Placed, inside_placed, slot_bound}
 use Rattle.haar.proofs.Places.{number_at, before_most}
-use Rattle.haar.proofs.Ladder.{rising}
+use Rattle.haar.proofs.Ladder.{rising, find_step}
 use Rattle.haar.proofs.Count.{index_inside, whole_inside}
 
 pub sum_meets : (n m p t k l : ℕ) → l ≡ min (4 * t + 4) n → m ≤ n → p < 2 ^ (n - m) → t < bands_in_use n → (k / 2 ^ (m - l) ≡ p / 2 ^ (l - m)) ↔ Meets n m p (TileSum t k)
@@ -18,6 +21,25 @@ sum_meets n m p t k l e h b u =
 
 pub diff_meets : (n m p j k : ℕ) → m ≤ n → p < 2 ^ (n - m) → 1 ≤ j → j ≤ n → (k / 2 ^ (m - j) ≡ p / 2 ^ (j - m)) ↔ Meets n m p (Difference j k)
 diff_meets n m p j k h b a l = (λ o. record { inside = (a, l, index_inside n m p j k h l b o); touched = o }, λ me. me.touched)
+
+-- the touched indices of a level, counted from the first
+pub level_met : (n m p : ℕ) → m ≤ n → p < 2 ^ (n - m) → (j : ℕ) → 1 ≤ j → j ≤ n → (at : ℕ) → at < 2 ^ (m - j) → Meets n m p (Difference j (first_met m p j + at))
+level_met n m p low inside j a l at h = (diff_meets n m p j _ low inside a l).0 (high (p / 2 ^ (j - m)) (m - j) h)
+
+pub path_met : (n m p : ℕ) → m ≤ n → p < 2 ^ (n - m) → (j : ℕ) → m < j → j ≤ n → Meets n m p (Difference j (first_met m p j))
+path_met n m p low inside j a l =
+    let z : first_met m p j + 0 ≡ first_met m p j = omega arith in
+    rw z at (level_met n m p low inside j (omega arith) l 0 (pow_pos (m - j)))
+
+pub local_index : (m p j at : ℕ) → j ≤ m → at < 2 ^ (m - j) → at ≡ (first_met m p j + at) % 2 ^ (m - j)
+local_index m p j at l h = sym (low_part (p / 2 ^ (j - m)) (m - j) h)
+
+-- a slot's row by its bounds
+pub row_of : (e h r : ℕ) → r < 2 ^ e → 2 ^ h ≤ 2 ^ e + r → 2 ^ e + r < 2 ^ suc h → e ≡ h
+row_of e h r b lo hi =
+    ⊎_elim (λ (lt : e < h). absurd (omega (arith, two-pow-succ e, pow_mono {i = suc e} {j = h} (omega arith))))
+    (λ (ge : h ≤ e). ⊎_elim (λ (q : e ≡ h). q) (λ ne. absurd (omega (arith, pow_mono {i = suc h} {j = e} (omega arith)))) (cases_eq e h))
+    (cases_lt e h)
 
 -- an overlap, seen from a level L above
 climb : (m p j k L : ℕ) → j ≤ L → k / 2 ^ (m - j) ≡ p / 2 ^ (j - m) → k / 2 ^ (L - j) / 2 ^ (m - L) ≡ p / 2 ^ (L - m)
@@ -57,26 +79,6 @@ tiles_fit T n m p t a b h l =
     let f : 2 ^ (4 * (T - 1 - t)) ≡ 2 ^ (4 * T - max (4 * t + 4) m) * 2 ^ (m - (4 * t + 4)) = same_pow _ (4 * T - max (4 * t + 4) m + (m - (4 * t + 4))) (omega arith) ∙ pow-add 2 (4 * T - max (4 * t + 4) m) (m - (4 * t + 4)) in
     omega (arith, sixteen (T - 1 - t), mul-le-mul_right (2 ^ (m - (4 * t + 4))) q)
 
-sits_placed : (top : ℕ) (s : Coefficient) (t k at : ℕ) → Sits s t k at → t ≤ top → k < 16 ^ (top - t) → at < 16 → Placed top s
-sits_placed top (TileSum t' k') t k at s a b c = (omega arith, tile-fits)
-  where
-    tile-fits : k' < 16 ^ (top - t')
-    tile-fits = subst (λ x. x < 16 ^ (top - t')) (sym s.tile) (subst (λ x. k < 16 ^ (top - x)) (sym s.band) b)
-sits_placed top (Difference zero k') t k at s a b c = absurd (omega arith)
-sits_placed top (Difference (suc j) k') t k at s a b c = (omega arith, tile-fits, omega arith)
-  where
-    tile-fits : k' / 2 ^ depth (suc j) < 16 ^ (top - (suc j - 1) / 4)
-    tile-fits = subst (λ x. x < 16 ^ (top - (suc j - 1) / 4)) (sym s.tile) (subst (λ x. k < 16 ^ (top - x)) (sym s.band) b)
-
--- the coefficient of a slot has the slot's cell, and no other coefficient has it
-pub sits_cell : (T : ℕ) (s : Coefficient) (t k at : ℕ) → 1 ≤ T → Sits s t k at → cell_number T s ≡ 16 * (tiles_before (T - 1 - t) + k) + at
-sits_cell T s t k at h i = number_at T s h ∙ cc
-
-pub sits_one : (T n m p : ℕ) (s s' : Coefficient) (t k at : ℕ) → 1 ≤ T → n ≤ 4 * T → Meets n m p s' → Sits s t k at → t < T → k < 16 ^ (T - 1 - t) → at < 16 → cell_number T s' ≡ cell_number T s → s' ≡ s
-sits_one zero n m p s s' t k at a h i si b c d e = absurd (omega arith)
-sits_one (suc top) n m p s s' t k at a h i si b c d e =
-    injective top s' s (inside_placed top n s' h i.inside) (sits_placed top s t k at si (omega arith) (rw sub-one at c) d) e
-
 -- the tiles before a band and in it, of at most five bands
 pub before_next : (T t : ℕ) → t < T → tiles_before (T - t) ≡ tiles_before (T - 1 - t) + 16 ^ (T - 1 - t)
 before_next T t h = ap tiles_before (omega arith) ∙ before_suc (T - 1 - t)
@@ -92,36 +94,6 @@ span_fits T n m p t a b base h u v w x e f g =
 slot_lt : (n m p : ℕ) (s : Coefficient) → Meets n m p s → slot s < 16
 slot_lt n m p (TileSum t k) h = omega arith
 slot_lt n m p (Difference j k) h = slot_bound j k h.inside.0
-
--- a touched coefficient stands among the cells of the tiles that meet the chunk
-span_own : (T n m p start end : ℕ) (s : Coefficient) → 1 ≤ T → Meets n m p s → Spans T m p (band s) start end → (start ≤ cell_number T s) × (cell_number T s < end)
-span_own T n m p start end s a h sp =
-    let e = number_at T s a in
-    let w = within (tile s) (m - (4 * band s + 4)) _ (tile_met n m p s h) in
-    let l = slot_lt n m p s h in
-    let f = sp.from in
-    let g = sp.to in
-    (omega arith, omega arith)
-
-pub in_span : (T n m p t start end : ℕ) (s : Coefficient) → 1 ≤ T → Spans T m p t start end → Meets n m p s → band s ≡ t → (start ≤ cell_number T s) × (cell_number T s < end)
-in_span T n m p t start end s a sp h e = span_own T n m p start end s a h (subst (λ x. Spans T m p x start end) (sym e) sp)
-
-pub span_inside : (T n m p t start end : ℕ) → t < T → n ≤ 4 * T → m ≤ n → p < 2 ^ (n - m) → Spans T m p t start end → (16 * tiles_before (T - 1 - t) ≤ start) × (end ≤ 16 * tiles_before (T - t))
-span_inside T n m p t start end a b c d sp =
-    let q = tiles_fit T n m p t a b c d in
-    let r = before_next T t a in
-    let f = sp.from in
-    let g = sp.to in
-    (omega arith, omega arith)
-
--- the coefficient of a cell of band t
-pub cell_sits : (T t cell : ℕ) (s : Coefficient) → 1 ≤ T → 16 * tiles_before (T - 1 - t) ≤ cell → Sits s t (cell / 16 - tiles_before (T - 1 - t)) (cell % 16) → cell_number T s ≡ cell
-cell_sits T t cell s a b si = sits_cell T s t _ _ a si ∙ omega arith
-
-pub cell_one : (T n m p t cell : ℕ) (s s' : Coefficient) → 1 ≤ T → n ≤ 4 * T → t < T → 16 * tiles_before (T - 1 - t) ≤ cell → cell < 16 * tiles_before (T - t) → Sits s t (cell / 16 - tiles_before (T - 1 - t)) (cell % 16) → Meets n m p s' → cell_number T s' ≡ cell → s' ≡ s
-cell_one T n m p t cell s s' a h b lo hi si me e =
-    let r = before_next T t b in
-    sits_one T n m p s s' t _ _ a h me si b (omega arith) (omega arith) (e ∙ sym (cell_sits T t cell s a lo si))
 
 -- a higher band has lower cells
 below_next : (T n m p : ℕ) (s : Coefficient) → 1 ≤ T → n ≤ 4 * T → Meets n m p s → (band s < T) × (cell_number T s < 16 * tiles_before (T - band s))
@@ -139,27 +111,91 @@ below_next (suc top) n m p s a h me =
     placed top (TileSum t k) p = (p.0, p.1)
     placed top (Difference j k) p = (p.0, p.1)
 
-pub band_order : (T n m p : ℕ) (s s' : Coefficient) → 1 ≤ T → n ≤ 4 * T → Meets n m p s → Meets n m p s' → band s' < band s → cell_number T s < cell_number T s'
-band_order T n m p s s' a h me me' lt =
-    let x = below_next T n m p s a h me in
-    let e = number_at T s' a in
-    let r = rising tiles_before before_rises (T - band s) (T - 1 - band s') (omega arith) in
-    omega arith
+module _ (T n m p : ℕ) (some : 1 ≤ T) (held : n ≤ 4 * T) (low : m ≤ n) (inside : p < 2 ^ (n - m)) where
+  -- the band of a touched coefficient, by its cell
+  pub in_band : (t : ℕ) (s : Coefficient) → t < T → Meets n m p s → 16 * tiles_before (T - 1 - t) ≤ cell_number T s → cell_number T s < 16 * tiles_before (T - t) → band s ≡ t
+  in_band t s h me lo hi =
+      let x = below_next T n m p s some held me in
+      let e = number_at T s some in
+      ⊎_elim
+      (λ (lt : band s < t). absurd (omega (arith, rising tiles_before before_rises (T - t) (T - 1 - band s) (omega arith))))
+      (λ (ge : t ≤ band s).
+      ⊎_elim (λ (q : band s ≡ t). q)
+      (λ ne. absurd (omega (arith, x.1, rising tiles_before before_rises (T - band s) (T - 1 - t) (omega arith))))
+      (cases_eq (band s) t))
+      (cases_lt (band s) t)
 
--- what a band has first, where the bands above have nothing
-pub first_of : (T n m p t from cell : ℕ) (s : Coefficient) → 1 ≤ T → n ≤ 4 * T → FoundIn T n m p t from s cell → ((s' : Coefficient) → Meets n m p s' → suc t ≤ band s' → cell_number T s' < from) → Found T n m p from s cell
-first_of T n m p t from cell s a h f none =
-    record { meets = f.meets; numbered = f.numbered; after = f.after; least = least }
-  where
-    least : (s' : Coefficient) → Meets n m p s' → from ≤ cell_number T s' → cell ≤ cell_number T s'
-    least s' me lo =
-        ⊎_elim (λ (lt : band s' < band s). let o = band_order T n m p s s' a h f.meets me lt in omega (arith, f.numbered))
-        (λ (le : band s ≤ band s').
-        ⊎_elim (λ (e : band s' ≡ t). f.least s' me e lo)
-        (λ ne. absurd (omega (arith, none s' me (omega (arith, f.here)))))
-        (cases_eq (band s') t))
-        (cases_lt (band s') (band s))
+  -- its cell lies among those of the tiles that meet the chunk
+  in_span : (t : ℕ) (s : Coefficient) → Meets n m p s → band s ≡ t → (first_cell T m p t ≤ cell_number T s) × (cell_number T s < first_cell T m p t + 16 * 2 ^ (m - (4 * t + 4)))
+  in_span t s me b =
+      let e = number_at T s some in
+      let f = ap (λ x. tiles_before (T - 1 - x)) b in
+      let w = within (tile s) (m - (4 * t + 4)) (p / 2 ^ (4 * t + 4 - m)) (subst (λ x. tile s / 2 ^ (m - (4 * x + 4)) ≡ p / 2 ^ (4 * x + 4 - m)) b (tile_met n m p s me)) in
+      let l = slot_lt n m p s me in
+      (omega arith, omega arith)
 
--- a coefficient's cell from its parts, and its bound
-pub cell_parts : (T n : ℕ) (s : Coefficient) → 1 ≤ T → T ≤ 5 → n ≤ 4 * T → Inside n s → (cell_number T s ≡ 16 * (tiles_before (T - 1 - band s) + tile s) + slot s) × (cell_number T s < 1118480)
-cell_parts T n s a b h i = (number_at T s a, omega (arith, inside_below T n s a h i, before_most T b))
+  pub span_most : (t : ℕ) → t < T → first_cell T m p t + 16 * 2 ^ (m - (4 * t + 4)) ≤ 16 * tiles_before (T - t)
+  span_most t h = omega (arith, tiles_fit T n m p t h held low inside, before_next T t h)
+
+  -- no touched cell in the bands that are not in use, nor in a band before and after the tiles that meet the chunk
+  pub gap_top : Gap T n m p 0 (16 * tiles_before (T - bands_in_use n))
+  gap_top s me lo hi =
+      let e = number_at T s some in
+      absurd (omega (arith, rising tiles_before before_rises (T - bands_in_use n) (T - 1 - band s) (omega (arith, used s me.inside))))
+    where
+      used : (s : Coefficient) → Inside n s → band s < bands_in_use n
+      used (TileSum t k) i = omega (arith, i.0)
+      used (Difference j k) i = omega (arith, i.0, i.1)
+
+  pub gap_before : (t : ℕ) → t < T → Gap T n m p (16 * tiles_before (T - 1 - t)) (first_cell T m p t)
+  gap_before t h s me lo hi = let q = in_span t s me (in_band t s h me lo (omega (arith, span_most t h))) in omega arith
+
+  pub gap_after : (t : ℕ) → t < T → Gap T n m p (first_cell T m p t + 16 * 2 ^ (m - (4 * t + 4))) (16 * tiles_before (T - t))
+  gap_after t h s me lo hi = let q = in_span t s me (in_band t s h me (omega arith) hi) in omega arith
+
+  pub span_count : (t : ℕ) → 16 * tiles_before (T - t) ≤ cell_count T
+  span_count t = omega (arith, rising tiles_before before_rises (T - t) T (omega arith))
+
+  -- where a tile lies inside the chunk, each of its slots is touched
+  module _ (t at : ℕ) (whole : 4 * t + 4 ≤ m) (few : at < 16 * 2 ^ (m - (4 * t + 4))) where
+    abbrev pub k : ℕ
+    k = first_met m p (4 * t + 4) + at / 16
+
+    over : k / 2 ^ (m - (4 * t + 4)) ≡ p
+    over =
+        let z : 2 ^ (4 * t + 4 - m) ≡ 1 = same_pow (4 * t + 4 - m) 0 (omega arith) in
+        let e : p / 2 ^ (4 * t + 4 - m) ≡ p = rw z (div-one p) in
+        let f : first_met m p (4 * t + 4) ≡ p * 2 ^ (m - (4 * t + 4)) = ap (λ x. x * 2 ^ (m - (4 * t + 4))) e in
+        ap (λ x. x / 2 ^ (m - (4 * t + 4))) (ap (λ x. x + at / 16) f) ∙ high p (m - (4 * t + 4)) (omega arith)
+
+    -- a level of the tile: its index, from the tile's, is touched
+    down : (h r : ℕ) → h ≤ 3 → r < 2 ^ h → Meets n m p (Difference (4 * t + 4 - h) (k * 2 ^ h + r))
+    down h r l b =
+        let e : m - (4 * t + 4 - h) ≡ h + (m - (4 * t + 4)) = omega arith in
+        let z : p / 2 ^ (4 * t + 4 - h - m) ≡ p = rw (same_pow (4 * t + 4 - h - m) 0 (omega arith)) (div-one p) in
+        (diff_meets n m p (4 * t + 4 - h) _ low inside (omega arith) (omega arith)).0
+        (ap (λ x. (k * 2 ^ h + r) / 2 ^ x) e ∙ sym (shr-shr (k * 2 ^ h + r) h (m - (4 * t + 4))) ∙ ap (λ x. x / 2 ^ (m - (4 * t + 4))) (high k h b) ∙ over ∙ sym z)
+
+    pub tile_cell : t < T → (s : Coefficient) × Meets n m p s × (cell_number T s ≡ first_cell T m p t + at) × Sits s t k (at % 16)
+    tile_cell h =
+        ⊎_elim (λ (a : 0 < at % 16). difference (find_step (λ x. 2 ^ x) (λ h. pow_mono (omega arith)) 3 (at % 16) a (omega arith)))
+        (λ (z : at % 16 ≤ 0).
+        let si : Sits (TileSum t k) t k (at % 16) = record { band = refl; tile = refl; slot = omega arith } in
+        let q : p / 2 ^ (4 * t + 4 - m) ≡ p = rw (same_pow (4 * t + 4 - m) 0 (omega arith)) (div-one p) in
+        (TileSum t k, (sum_meets n m p t k (4 * t + 4) (omega arith) low inside (omega arith)).0 (over ∙ sym q), stands (TileSum t k) si, si))
+        (cases_lt 0 (at % 16))
+      where
+        stands : (s : Coefficient) → Sits s t k (at % 16) → cell_number T s ≡ first_cell T m p t + at
+        stands s si = number_at T s some ∙ rw (si.band, si.tile, si.slot) (omega arith)
+
+        difference : (h : ℕ) × (h ≤ 3) × (2 ^ h ≤ at % 16) × (at % 16 < 2 ^ suc h) → (s : Coefficient) × Meets n m p s × (cell_number T s ≡ first_cell T m p t + at) × Sits s t k (at % 16)
+        difference (h, l, lo, hi) =
+            let r = at % 16 - 2 ^ h in
+            let b : r < 2 ^ h = omega (arith, two-pow-succ h) in
+            let d : depth (4 * t + 4 - h) ≡ h = omega arith in
+            let si : Sits (Difference (4 * t + 4 - h) (k * 2 ^ h + r)) t k (at % 16) = record {
+              band = omega arith;
+              tile = rw d (high k h b);
+              slot = rw d (ap (λ x. 2 ^ h + x) (low_part k h b) ∙ omega arith);
+            } in
+            (Difference (4 * t + 4 - h) (k * 2 ^ h + r), down h r l b, stands _ si, si)

@@ -1,12 +1,18 @@
 -- A chunk's share of a coefficient, from the chunk's own tree.
-use Rattle.std.proofs.Common.{◌≡◌, ℕ, zero, suc, ◌+◌, ◌-◌, ◌*◌, ◌/◌, ◌%◌, ◌^◌, ◌<◌, ◌≤◌, min, List, ℤ, neg_ℤ, sym, ap, ◌∙◌, mod-lt, div-add-mod', div-one, arith, pow_pos}
+use Rattle.std.proofs.Common.{◌≡◌, ℕ, zero, suc, ◌+◌, ◌-◌, ◌*◌, ◌/◌, ◌%◌, ◌^◌, ◌<◌, ◌≤◌, min, List, ℤ, neg_ℤ, sym, ap, ◌∙◌, mod-lt, div-add-mod', ap₂, pow-add, div-one, arith, pow_pos}
 use lib.Pow.{high, low}
+use lib.Pow.{low as low_part}
+use native.Mathlib.Nat.{two-pow-succ}
 use Rattle.std.proofs.lemmas.Bool.{eq-eqb, ne_eqb}
 use Rattle.haar.specs.Tree.{S, D}
 use Rattle.haar.specs.declared.coefficient.Coefficient.TheVariants.{TileSum, Difference}
 use Rattle.haar.specs.Haar.{value}
 use Rattle.haar.specs.Load.{Chunk}
-use Rattle.loads.specs.Reach.{Meets}
+use Rattle.loads.specs.Reach.{Meets, Sits, first_met}
+use Rattle.loads.proofs.Meeting.{local_index, row_of}
+use Rattle.loads.proofs.Places.{row_below}
+use Rattle.haar.specs.Tiles.{depth}
+use Rattle.haar.specs.declared.coefficient.Coefficient.{Coefficient}
 use Rattle.loads.specs.Share.{minutes, alone}
 use Rattle.haar.proofs.Split.{value_whole, splits, shift_suc}
 use Rattle.haar.proofs.Load.{shifted_S, shifted_D}
@@ -66,3 +72,31 @@ module _ (m p : ℕ) (zs : List ℤ) where
 
   pub share_over : (n t k : ℕ) → m ≤ n → m ≤ 4 * t + 4 → Meets n m p (TileSum t k) → S (alone zs) m 0 ≡ value n (minutes m p zs) (TileSum t k)
   share_over n t k l h me = sym ((splits m p (minutes m p zs) minutes_chunk n l).over t k me.inside h me.touched ∙ own_sum)
+
+  -- the slots of a tile inside the chunk, counted from the first tile of its band
+  module _ (n t at : ℕ) (whole : 4 * t + 4 ≤ m) (low : m ≤ n) (few : at < 16 * 2 ^ (m - (4 * t + 4))) where
+    pub share_whole : at % 16 ≡ 0 → (s : Coefficient) → Meets n m p s → Sits s t (first_met m p (4 * t + 4) + at / 16) (at % 16) → S (alone zs) (4 * t + 4) (at / 16) ≡ value n (minutes m p zs) s
+    share_whole z (Difference j k) me si = absurd (omega (arith, si.slot, pow_pos (depth j)))
+    share_whole z (TileSum t' k) me si =
+        ap (S (alone zs) (4 * t + 4)) (local_index m p (4 * t + 4) (at / 16) whole (omega arith))
+        ∙ ap₂ (λ x y. S (alone zs) (4 * x + 4) (y % 2 ^ (m - (4 * x + 4)))) (sym si.band) (sym si.tile)
+        ∙ share_sum n t' k (omega (arith, si.band)) low me
+
+    pub share_row : (h : ℕ) → h ≤ 3 → 2 ^ h ≤ at % 16 → at % 16 < 2 * 2 ^ h → (s : Coefficient) → Meets n m p s → Sits s t (first_met m p (4 * t + 4) + at / 16) (at % 16) → D (alone zs) (4 * t + 4 - h) (at / 16 * 2 ^ h + at % 16 - 2 ^ h) ≡ value n (minutes m p zs) s
+    share_row h l lo hi (TileSum t' k) me si = absurd (omega (arith, si.slot, pow_pos h))
+    share_row h l lo hi (Difference j k) me si =
+        let e = row_of (depth j) h (k % 2 ^ depth j) (mod-lt k (pow_pos (depth j))) (omega (arith, si.slot)) (omega (arith, si.slot, hi, two-pow-succ h)) in
+        let q : 4 * t + 4 - h ≡ j = omega (arith, e, si.band, me.inside) in
+        ap₂ (D (alone zs)) q (own_index e) ∙ share_diff n j k me.inside.0 (omega arith) me
+      where
+        own_index : depth j ≡ h → at / 16 * 2 ^ h + at % 16 - 2 ^ h ≡ k % 2 ^ (m - j)
+        own_index e =
+            let a = m - (4 * t + 4) in
+            let x = p / 2 ^ (4 * t + 4 - m) in
+            let w : 2 ^ (m - j) ≡ 2 ^ a * 2 ^ h = ap (λ x. 2 ^ x) (omega (arith, e, si.band, me.inside)) ∙ pow-add 2 a h in
+            let d : k / 2 ^ h * 2 ^ h + k % 2 ^ h ≡ k = div-add-mod' k (2 ^ h) in
+            let q : k / 2 ^ h ≡ x * 2 ^ a + at / 16 = ap (λ z. k / 2 ^ z) (sym e) ∙ si.tile in
+            let r : 2 ^ h + k % 2 ^ h ≡ at % 16 = ap (λ z. 2 ^ z + k % 2 ^ z) (sym e) ∙ si.slot in
+            let f : k ≡ x * 2 ^ (m - j) + (at / 16 * 2 ^ h + at % 16 - 2 ^ h) = omega (arith, d, ap (λ z. z * 2 ^ h) q, ap (λ z. x * z) w, r) in
+            let y : m - (4 * t + 4 - h) ≡ m - j = omega (arith, e, si.band, me.inside) in
+            sym (low_part x (m - j) (rw y at (row_below m t at whole few h l hi))) ∙ ap (λ z. z % 2 ^ (m - j)) (sym f)

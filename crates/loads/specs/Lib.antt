@@ -3,6 +3,8 @@ pub mod Transform
 pub mod Share
 pub mod Tree
 pub mod Loads
+pub mod Passes
+pub mod Skips
 pub mod Adds
 pub mod Addition
 pub mod Keeps

@@ -1,11 +1,13 @@
--- A chunk in a tree, and the touched coefficients in rising cell number.
+-- A chunk in a tree, and the cells that it touches.
 --   at_reach r R    a relation R of bands, size, level and index, at those of the reach r
---   Reaches r s     the chunk of the reach r touches the coefficient s
---   Found           the touched coefficient of the lowest cell from `from` on
---   Past            there is none
-use Rattle.std.specs.Prelude.{◌≡◌, ℕ, ◌+◌, ◌-◌, ◌*◌, ◌/◌, ◌^◌, ◌<◌, ◌≤◌}
+--   Sits            a coefficient by its band, its tile and its slot
+--   Meets           a touched coefficient inside the size
+--   Gap             no touched cell from one cell to before another
+--   Takes           a touched cell, and the share of the data in it
+use Rattle.std.specs.Prelude.{◌≡◌, ℕ, ◌+◌, ◌-◌, ◌*◌, ◌/◌, ◌^◌, ◌<◌, ◌≤◌, ℤ}
 use Rattle.haar.specs.declared.coefficient.Coefficient.{Coefficient}
 use Rattle.haar.specs.Tiles.{band, tile, slot, tiles_before, cell_number, Inside}
+use Rattle.haar.specs.Haar.{value}
 use Rattle.haar.specs.Load.{Touched}
 use Rattle.loads.specs.declared.reach.Reach.{Reach}
 
@@ -18,35 +20,27 @@ pub record Sits (s : Coefficient) (t k at : ℕ) : Type 0 where
   pub tile : tile s ≡ k
   pub slot : slot s ≡ at
 
--- the cells of the tiles of band t that meet the chunk (m,p): from `start` to before `end`
-pub record Spans (T m p t start end : ℕ) : Type 0 where
-  pub from : start ≡ 16 * (tiles_before (T - 1 - t) + p / 2 ^ (4 * t + 4 - m) * 2 ^ (m - (4 * t + 4)))
-  pub to : end ≡ start + 16 * 2 ^ (m - (4 * t + 4))
-
--- a touched coefficient inside the size
 pub record Meets (n m p : ℕ) (s : Coefficient) : Type 0 where
   pub inside : Inside n s
   pub touched : Touched n m p s
 
-abbrev pub Reaches : Reach → Coefficient → Type 0
-Reaches r s = Meets r.size r.level r.index s
+abbrev pub Gap : ℕ → ℕ → ℕ → ℕ → ℕ → ℕ → Type 0
+Gap T n m p a b = (s : Coefficient) → Meets n m p s → a ≤ cell_number T s → cell_number T s < b → ⊥
 
-pub record Found (T n m p from : ℕ) (s : Coefficient) (cell : ℕ) : Type 0 where
-  pub meets : Meets n m p s
-  pub numbered : cell_number T s ≡ cell
-  pub after : from ≤ cell
-  pub least : (s' : Coefficient) → Meets n m p s' → from ≤ cell_number T s' → cell ≤ cell_number T s'
+pub record Takes (T n m p : ℕ) (g : ℕ → ℤ) (cell : ℕ) (share : ℤ) : Type 0 where
+  pub coefficient : Coefficient
+  pub meets : Meets n m p coefficient
+  pub numbered : cell_number T coefficient ≡ cell
+  pub is : share ≡ value n g coefficient
 
-abbrev pub Past : ℕ → ℕ → ℕ → ℕ → ℕ → Type 0
-Past T n m p from = (s' : Coefficient) → Meets n m p s' → cell_number T s' < from
+-- the first index at level l that meets the chunk (m,p)
+abbrev pub first_met : ℕ → ℕ → ℕ → ℕ
+first_met m p l = p / 2 ^ (l - m) * 2 ^ (m - l)
 
--- the same of one band
-pub record FoundIn (T n m p t from : ℕ) (s : Coefficient) (cell : ℕ) : Type 0 where
-  pub meets : Meets n m p s
-  pub here : band s ≡ t
-  pub numbered : cell_number T s ≡ cell
-  pub after : from ≤ cell
-  pub least : (s' : Coefficient) → Meets n m p s' → band s' ≡ t → from ≤ cell_number T s' → cell ≤ cell_number T s'
+-- slot 0 of the first tile of band t that meets the chunk
+abbrev pub first_cell : ℕ → ℕ → ℕ → ℕ → ℕ
+first_cell T m p t = 16 * (tiles_before (T - 1 - t) + first_met m p (4 * t + 4))
 
-abbrev pub PastIn : ℕ → ℕ → ℕ → ℕ → ℕ → ℕ → Type 0
-PastIn T n m p t from = (s' : Coefficient) → Meets n m p s' → band s' ≡ t → cell_number T s' < from
+-- the first slot of level j in that tile, where it lies over the chunk
+abbrev pub row_cell : ℕ → ℕ → ℕ → ℕ → ℕ → ℕ
+row_cell T m p t j = first_cell T m p t + 2 ^ (4 * t + 4 - j)

@@ -3,15 +3,59 @@ ghost use Rattle.std.specs.Prelude.{◌≡◌, ℕ, ℤ, pos, ◌≤ℤ◌};
 ghost use Rattle.haar.specs.Load.{Loaded};
 ghost use Rattle.haar.specs.Tiles.{cell_count};
 ghost use Rattle.loads.specs.Reach.{at_reach};
-ghost use Rattle.loads.specs.Loads.{Clear, Checked, Stored, fresh};
+ghost use Rattle.loads.specs.Loads.{Large, Clear, Checked, Stored, fresh};
+ghost use Rattle.loads.specs.Passes.{Seen, Partly};
 ghost use Rattle.loads.specs.Adds.{Adds};
+ghost use Rattle.loads.specs.Skips.{seen_skip, partly_skip};
 
 use crate::cells::{added, number_in, put, starts};
 use crate::share::ChunkTree;
-use crate::touched::Touched;
+use crate::walk::{Pass, walk};
 use haar::written::cells_written;
 use store::interface::Store;
 use warehouse::fault::Fault;
+
+// Checks each cell, and counts those that go from zero to nonzero.
+#[derive(Drop)]
+pub struct Checking<'s, S: Store> {
+    store: &'s S,
+    started: u32,
+}
+
+impl<S: Store> Pass for Checking<'_, S> {
+    ghost passed = { λ r g x y a. (y.store ≡ x.store) × ((S.means x.store.now).bands ≡ r.bands) × at_reach r Seen g (S.means x.store.now).cells a y.started };
+
+    ghost skip = { λ r g x y a b passed le most gap. (passed.0, passed.1, seen_skip r.bands r.size r.level r.index g _ a _ passed.2 b le most gap) };
+
+    ghost stopped = { λ r g x c. at_reach r Large g (S.means x.store.now).cells c };
+
+    fn take(&mut self, cell: u32, share: i64) -> Result<(), u32> {
+        let number = number_in(self.store, cell);
+        let new = added(number, share).ok_or(cell)?;
+        self.started += starts(number, new);
+        Ok(())
+    }
+}
+
+// Writes each cell.
+#[derive(Drop)]
+pub struct Writing<'s, S: Store> {
+    store: &'s mut S,
+}
+
+impl<S: Store> Pass for Writing<'_, S> {
+    ghost passed = { λ r g x y a. (y.store.ghost_name ≡ x.store.ghost_name) × at_reach r Partly g (S.means x.store.now) (S.means y.store.now) a };
+
+    ghost skip = { λ r g x y a b passed le most gap. (passed.0, partly_skip r.bands r.size r.level r.index g _ _ a passed.1 b le most gap) };
+
+    ghost stopped = { λ r g x c. ⊥ };
+
+    fn take(&mut self, cell: u32, share: i64) -> Result<(), u32> {
+        let number = number_in(self.store, cell);
+        put(self.store, cell, number + share);
+        Ok(())
+    }
+}
 
 // A chunk's tree and the store that it goes to, in whose bands its reach lies.
 #[derive(Drop)]
@@ -28,13 +72,12 @@ impl<S: Store> Load<'_, '_, S> {
     fn check(&self) -> Result<u32, u32>
         ensures { at_reach self.now.chunk.reach Checked (minutes_of self.now.chunk) (S.means self.now.store.now).cells result }
     {
-        let mut started = 0;
-        for touch in Touched::of(self.chunk.reach) {
-            let number = number_in(self.store, touch.cell);
-            let new = added(number, self.chunk.share(touch.coefficient)).ok_or(touch.cell)?;
-            started += starts(number, new);
-        }
-        Ok(started)
+        let mut checking = Checking {
+            store: self.store,
+            started: 0,
+        };
+        walk(&mut checking, &self.chunk)?;
+        Ok(checking.started)
     }
 
     // Each method that lends its store on to be written says that the same loan comes back (`same_store`): no type can say it.
@@ -45,11 +88,9 @@ impl<S: Store> Load<'_, '_, S> {
         ensures stored { at_reach self.old.chunk.reach Stored (minutes_of self.old.chunk) (S.means self.old.store.now) (S.means self.new.store.now) }
     {
         let chunk = self.chunk;
-        for touch in Touched::of(chunk.reach) {
-            let number = number_in(self.store, touch.cell);
-            let share = chunk.share(touch.coefficient);
-            put(self.store, touch.cell, number + share);
-        }
+        let mut writing = Writing { store: self.store };
+        // no cell is refused, since each was checked
+        let _ = walk(&mut writing, &chunk);
     }
 
     // The count of cells written, or why nothing was.

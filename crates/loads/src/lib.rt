@@ -10,7 +10,6 @@ pub mod open;
 pub mod point;
 mod reach;
 mod share;
-mod slots;
-mod touched;
 mod transform;
 mod values;
+mod walk;

@@ -4,10 +4,10 @@ ghost use Rattle.std.specs.Prelude.{◌^◌, ◌≤◌};
 use warehouse::fault::Refusal;
 
 pub struct OpenLoad {
-    pub level: u8,
-    pub index: u32,
+    pub(crate) level: u8,
+    pub(crate) index: u32,
     // how many values have come; they lie in the caller's buffer, since a load takes no memory
-    pub taken: u32,
+    pub(crate) taken: u32,
     ghost short: { level ≤ 12 },
     ghost few: { taken ≤ 2 ^ level },
 }

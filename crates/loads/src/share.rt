@@ -1,14 +1,15 @@
 // A chunk's share of a coefficient, from its tree.
-ghost use Rattle.std.specs.Prelude.{◌≡◌, ℕ, ◌+◌, ◌-◌, ◌*◌, ◌/◌, ◌^◌, ◌<◌, ◌≤◌};
+ghost use Rattle.std.specs.Prelude.{◌≡◌, ℕ, ◌+◌, ◌-◌, ◌*◌, ◌/◌, ◌%◌, ◌^◌, ◌<◌, ◌≤◌};
 ghost use Rattle.haar.specs.Tree.{S, D};
 ghost use Rattle.haar.specs.Haar.{value};
 ghost use Rattle.haar.specs.Places.{InSize};
-ghost use Rattle.loads.specs.Reach.{Reaches};
+ghost use Rattle.haar.specs.declared.coefficient.Coefficient.{Coefficient};
+ghost use Rattle.haar.specs.declared.coefficient.Coefficient.TheVariants.{Difference};
+ghost use Rattle.loads.specs.Reach.{Meets, Sits, first_met};
 ghost use Rattle.loads.specs.Transform.{Near};
 ghost use Rattle.loads.specs.Share.{Ready};
 
 use crate::reach::Reach;
-use haar::coefficient::Coefficient;
 
 // The tree of a chunk's values, in a buffer.
 #[derive(Clone, Copy)]
@@ -18,11 +19,14 @@ pub struct ChunkTree<'a> {
     ghost ready: { Ready reach.level numbers.now },
 }
 
+// where the differences of a tile lie in the buffer of a chunk that holds it, by slot, in sixteenths of the tile
+const PLACES: [u32; 16] = [0, 8, 4, 12, 2, 6, 10, 14, 1, 3, 5, 7, 9, 11, 13, 15];
+
 impl ChunkTree<'_> {
     ghost use Rattle.loads.specs.Tree.{minutes_of, alone_of};
 
     // D(level, index) of the chunk alone
-    fn difference_at(&self, level: u8, index: u32) -> i64
+    pub(crate) fn difference_at(&self, level: u8, index: u32) -> i64
         requires { (1 ≤ level) × InSize self.now.reach.level level index }
         ensures { result ≡ D (alone_of self.now) level index }
     {
@@ -30,7 +34,7 @@ impl ChunkTree<'_> {
     }
 
     // the chunk's sum
-    fn whole_sum(&self) -> i64
+    pub(crate) fn whole_sum(&self) -> i64
         ensures is { result ≡ S (alone_of self.now) self.now.reach.level 0 }
         ensures near { Near (2 ^ 43) result }
     {
@@ -56,31 +60,30 @@ impl ChunkTree<'_> {
         sum
     }
 
-    pub(crate) fn share(&self, coefficient: Coefficient) -> i64
-        requires { Reaches self.now.reach coefficient }
-        ensures { result ≡ value self.now.reach.size (minutes_of self.now) coefficient }
+    // the share of slot `at`, counted from the first tile of a band whose tiles lie inside the chunk
+    pub(crate) fn tile_share(&self, band: u8, at: u32) -> i64
+        requires { (4 * band + 4 ≤ self.now.reach.level) × (at < 16 * 2 ^ (self.now.reach.level - (4 * band + 4))) }
+        ensures { (s : Coefficient) → Meets self.now.reach.size self.now.reach.level self.now.reach.index s → Sits s band (first_met self.now.reach.level self.now.reach.index (4 * band + 4) + at / 16) (at % 16) → result ≡ value self.now.reach.size (minutes_of self.now) s }
     {
-        let chunk = self.reach.level;
-        match coefficient {
-            Coefficient::Difference(level, index) if level <= chunk => {
-                self.difference_at(level, index % (1u32 << (chunk - level)))
-            }
-            Coefficient::Difference(level, _) => {
-                let sum = self.whole_sum();
-                if (self.reach.index >> (level - 1 - chunk)) % 2 == 0 {
-                    sum
-                } else {
-                    -sum
-                }
-            }
-            Coefficient::TileSum(band, tile) => {
-                let top = 4 * band + 4;
-                if top < chunk {
-                    self.sum_at(top, tile % (1u32 << (chunk - top)))
-                } else {
-                    self.whole_sum()
-                }
-            }
+        let tile = at / 16;
+        let slot = at % 16;
+        if slot == 0 {
+            return self.sum_at(4 * band + 4, tile);
+        }
+        self.numbers[((16 * tile + PLACES[slot as usize]) as usize) << (4 * band)]
+    }
+
+    // the share of the difference of a level above the chunk
+    pub(crate) fn path_share(&self, level: u8) -> i64
+        requires { (self.now.reach.level < level) × (level ≤ self.now.reach.size) }
+        ensures { result ≡ value self.now.reach.size (minutes_of self.now) (Difference level (first_met self.now.reach.level self.now.reach.index level)) }
+    {
+        let sum = self.whole_sum();
+        // in the left half, or in the right
+        if (self.reach.index >> (level - 1 - self.reach.level)) % 2 == 0 {
+            sum
+        } else {
+            -sum
         }
     }
 }

@@ -7,6 +7,7 @@ use crate::reach::Reach;
 use crate::share::ChunkTree;
 
 // the first number and the one at half become their sum and their difference
+#[inline(always)]
 fn join(numbers: &mut [i64], half: usize)
     requires { (0 < half) × ((half < length numbers.old) × (Within (2 ^ 61) numbers.old)) }
     ensures { numbers.new ≡ joined half numbers.old }
@@ -18,6 +19,7 @@ fn join(numbers: &mut [i64], half: usize)
 }
 
 // the way back
+#[inline(always)]
 fn part(numbers: &mut [i64], half: usize)
     requires { (0 < half) × ((half < length numbers.old) × (Within (2 ^ 61) numbers.old)) }
     ensures { numbers.new ≡ parted half numbers.old }
@@ -28,33 +30,129 @@ fn part(numbers: &mut [i64], half: usize)
     numbers[half] = (s - d) / 2;
 }
 
+// Two, four, eight and sixteen numbers, with no call between them: a call for each number would cost more than its work.
+#[inline(always)]
+fn two(numbers: &mut [i64])
+    requires { (length numbers.old ≡ 2) × (Within (2 ^ 31) numbers.old) }
+    ensures { numbers.new ≡ haar 1 numbers.old }
+{
+    join(numbers, 1);
+}
+
+#[inline(always)]
+fn four(numbers: &mut [i64])
+    requires { (length numbers.old ≡ 4) × (Within (2 ^ 31) numbers.old) }
+    ensures { numbers.new ≡ haar 2 numbers.old }
+{
+    let (low, high) = numbers.split_at_mut(2);
+    two(low);
+    two(high);
+    join(numbers, 2);
+}
+
+#[inline(always)]
+fn eight(numbers: &mut [i64])
+    requires { (length numbers.old ≡ 8) × (Within (2 ^ 31) numbers.old) }
+    ensures { numbers.new ≡ haar 3 numbers.old }
+{
+    let (low, high) = numbers.split_at_mut(4);
+    four(low);
+    four(high);
+    join(numbers, 4);
+}
+
+#[inline(always)]
+fn sixteen(numbers: &mut [i64])
+    requires { (length numbers.old ≡ 16) × (Within (2 ^ 31) numbers.old) }
+    ensures { numbers.new ≡ haar 4 numbers.old }
+{
+    let (low, high) = numbers.split_at_mut(8);
+    eight(low);
+    eight(high);
+    join(numbers, 8);
+}
+
 // The length and the level stay apart, here and on the way back: a struct of both would be made anew at each half.
 fn transform(numbers: &mut [i64], m: u8)
     requires { (length numbers.old ≡ 2 ^ m) × ((m ≤ 12) × (Within (2 ^ 31) numbers.old)) }
     ensures { numbers.new ≡ haar m numbers.old }
 {
-    if m == 0 {
-        return;
+    match m {
+        0 => {}
+        1 => two(numbers),
+        2 => four(numbers),
+        3 => eight(numbers),
+        4 => sixteen(numbers),
+        _ => {
+            let half = numbers.len() / 2;
+            let (low, high) = numbers.split_at_mut(half);
+            transform(low, m - 1);
+            transform(high, m - 1);
+            join(numbers, half);
+        }
     }
-    let half = numbers.len() / 2;
-    let (low, high) = numbers.split_at_mut(half);
-    transform(low, m - 1);
-    transform(high, m - 1);
-    join(numbers, half);
+}
+
+// the way back of two, four, eight and sixteen
+#[inline(always)]
+fn two_back(numbers: &mut [i64])
+    requires { (length numbers.old ≡ 2) × (Within (2 ^ 61) numbers.old) }
+    ensures { numbers.new ≡ unhaar 1 numbers.old }
+{
+    part(numbers, 1);
+}
+
+#[inline(always)]
+fn four_back(numbers: &mut [i64])
+    requires { (length numbers.old ≡ 4) × (Within (2 ^ 61) numbers.old) }
+    ensures { numbers.new ≡ unhaar 2 numbers.old }
+{
+    part(numbers, 2);
+    let (low, high) = numbers.split_at_mut(2);
+    two_back(low);
+    two_back(high);
+}
+
+#[inline(always)]
+fn eight_back(numbers: &mut [i64])
+    requires { (length numbers.old ≡ 8) × (Within (2 ^ 61) numbers.old) }
+    ensures { numbers.new ≡ unhaar 3 numbers.old }
+{
+    part(numbers, 4);
+    let (low, high) = numbers.split_at_mut(4);
+    four_back(low);
+    four_back(high);
+}
+
+#[inline(always)]
+fn sixteen_back(numbers: &mut [i64])
+    requires { (length numbers.old ≡ 16) × (Within (2 ^ 61) numbers.old) }
+    ensures { numbers.new ≡ unhaar 4 numbers.old }
+{
+    part(numbers, 8);
+    let (low, high) = numbers.split_at_mut(8);
+    eight_back(low);
+    eight_back(high);
 }
 
 fn restore(numbers: &mut [i64], m: u8)
     requires { (length numbers.old ≡ 2 ^ m) × (Within (2 ^ 61) numbers.old) }
     ensures { numbers.new ≡ unhaar m numbers.old }
 {
-    if m == 0 {
-        return;
+    match m {
+        0 => {}
+        1 => two_back(numbers),
+        2 => four_back(numbers),
+        3 => eight_back(numbers),
+        4 => sixteen_back(numbers),
+        _ => {
+            let half = numbers.len() / 2;
+            part(numbers, half);
+            let (low, high) = numbers.split_at_mut(half);
+            restore(low, m - 1);
+            restore(high, m - 1);
+        }
     }
-    let half = numbers.len() / 2;
-    part(numbers, half);
-    let (low, high) = numbers.split_at_mut(half);
-    restore(low, m - 1);
-    restore(high, m - 1);
 }
 
 // A caller's buffer while it holds the tree of a chunk's values; dropped, it holds the values again.

@@ -22,6 +22,7 @@ fn locate(fault: PushFault, passed: usize, line: &[u8]) -> ReadingFault
 }
 
 // The feed of a text, line after line; the first line that is none of a feed's is refused.
+// An Err for memory is open, also for a text with a wrong line: no clause says when memory is wanting.
 pub fn feed_of(text: &[u8], heap: Global) -> Result<Vec<u8>, ReadingFault>
     ensures { Feeds text.now result }
 {

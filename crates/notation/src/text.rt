@@ -30,6 +30,7 @@ impl fmt::Display for CommandLine {
 }
 
 // The text of a feed: its commands, then the bytes that no command can be read from.
+// An Err is open: no clause says when memory is wanting.
 pub fn text_of(feed: &[u8], heap: Global) -> Result<Vec<u8>, AllocError>
     ensures { IfOk result (λ text. text.items ≡ text_of feed.now) }
 {

@@ -51,6 +51,7 @@ impl fmt::Display for Ending {
 }
 
 // The words of a feed: its commands, then why no more can be read.
+// An Err is open: no clause says when memory is wanting.
 pub fn words_of(feed: &[u8], heap: Global) -> Result<Vec<u8>, AllocError>
     ensures { IfOk result (λ words. words.items ≡ words_of feed.now) }
 {

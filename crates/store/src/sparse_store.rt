@@ -1,6 +1,6 @@
 // The sparse store's calls.
 ghost use Rattle.store.specs.Laws.{table_lawful};
-ghost use Rattle.store.specs.SparseMeaning.{sparse_means};
+ghost use Rattle.store.specs.SparseMeaning.{sparse_means, sparse_puts};
 
 use crate::fault::{CellFault, check_cell};
 use crate::interface::Store;
@@ -8,6 +8,8 @@ use crate::sparse::Sparse;
 
 impl Store for Sparse {
     ghost means = { sparse_means };
+
+    ghost puts = { sparse_puts };
 
     ghost laws = { λ s. table_lawful s.table s.bands s.capacity s.few s.bounded };
 

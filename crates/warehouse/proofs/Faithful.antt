@@ -1,15 +1,20 @@
--- On Haar cells, questions inside the size are answered by plain sums.
-use Rattle.std.proofs.Common.{◌≡◌, ℕ, ◌-◌, ◌*◌, ◌^◌, ◌<◌, ◌≤◌, min, ltb, leb, ℤ, Ok, Err, ap, ◌∙◌, ap₂, arith}
-use Rattle.std.proofs.lemmas.Bool.{lt-ltb, le-ltb, lt-leb, cond-true, cond-false}
-use Rattle.haar.specs.Tiles.{tiles_before, cell_count}
-use Rattle.haar.specs.Tree.{plain_sum}
+-- On Haar cells, questions inside the size are answered by plain sums and differences.
+use Rattle.std.proofs.Common.{◌≡◌, ℕ, ◌-◌, ◌*◌, ◌^◌, ◌<◌, ◌≤◌, min, cond, ◌||◌, eqb, ltb, leb, ℤ, nat_abs, Ok, Err, ap, ◌∙◌, ap₂, arith}
+use Rattle.std.proofs.lemmas.Bool.{lt-ltb, le-ltb, le-leb, lt-leb, ne_eqb, and_from, or_from, cond-true, cond-false}
+use Rattle.haar.specs.declared.coefficient.Coefficient.TheVariants.{Difference}
+use Rattle.haar.specs.Tiles.{tiles_before, cell_number, cell_count, Inside}
+use Rattle.haar.specs.Tree.{plain_sum, D}
+use Rattle.haar.specs.Trend.{trend_of}
+use Rattle.haar.proofs.Numbers.{inside_below}
 use Rattle.store.specs.Meaning.{Meaning}
 use Rattle.store.specs.declared.fault.CellFault.TheVariants as cell
-use Rattle.warehouse.specs.declared.fault.Asked.TheVariants.{Minute, Minutes}
-use Rattle.warehouse.specs.declared.fault.Fault.TheVariants.{Cell, Range, Domain}
+use Rattle.warehouse.specs.declared.fault.Asked.TheVariants.{Interval, Minute, Minutes}
+use Rattle.warehouse.specs.declared.fault.Fault.TheVariants as fault
+use Rattle.warehouse.specs.declared.fault.Fault.TheVariants.{Cell, Range, Domain, Fine}
 use Rattle.warehouse.specs.Ask.{counted, piece, range_reading, sum_reading, averaged, point_answer, sum_answer, mean_answer}
 use Rattle.warehouse.specs.Faithful.{Holds, ReadsBack, WithoutBands}
 use Rattle.warehouse.specs.Faults.{refused}
+use Rattle.warehouse.specs.Grading.{inside, graded, graded_at, trend_answer}
 use Rattle.warehouse.specs.Read.{◌then◌, look, sight, descend, read, cells_read, range_cells, floor}
 use Rattle.warehouse.specs.View.{View}
 use Rattle.warehouse.proofs.Sums.{reads_point, reads_range}
@@ -39,8 +44,29 @@ module _ (v : View) (f : ℕ → ℤ) (h : Holds v f) where
       (cond-false (leb b a) (Err Range) (◌then◌ (sum_reading v a b) (averaged (b - a))) (lt-leb _ _ l)
       ∙ ap (λ r. ◌then◌ r (averaged (b - a))) (sum_read a b (omega arith) k))
 
+  module _ (j k : ℕ) (few : j ≤ 20) (i : Inside v.size (Difference j k)) where
+    abbrev own_cell : ℕ
+    own_cell = cell_number v.store.bands (Difference j k)
+
+    -- the trend of D(j,k), if it is not Fine
+    graded_back : trend_answer v j k ≡ refused (Interval j k) (graded j own_cell (D f j k))
+    unfolding trend_answer
+    graded_back =
+        ap (refused (Interval j k))
+        (cond-false (eqb j 0 || ltb 20 j) (Err fault.Interval) (cond (inside v.size j k) (graded_at v.store j k) (Err Domain)) (or_from _ _ (ne_eqb _ _ (omega arith)) (le-ltb _ _ few))
+        ∙ cond-true (inside v.size j k) (graded_at v.store j k) (Err Domain) (and_from _ _ (le-leb _ _ i.1) (lt-ltb _ _ i.2))
+        ∙ ap (λ r. ◌then◌ r (graded j own_cell))
+        (cond-true (ltb own_cell (cell_count v.store.bands)) (Ok (v.store.cells own_cell)) (Err (Cell (cell.Cell own_cell))) (lt-ltb _ _ (inside_below v.store.bands v.size (Difference j k) h.some h.fits i))
+        ∙ ap Ok (h.haar.held (Difference j k) i)))
+
+    trend_back : nat_abs (D f j k) ≤ 2 ^ 53 → trend_answer v j k ≡ Ok (trend_of j (D f j k))
+    trend_back l = graded_back ∙ ap (refused (Interval j k)) (cond-true (leb (nat_abs (D f j k)) (2 ^ 53)) (Ok (trend_of j (D f j k))) (Err (Fine own_cell)) (le-leb _ _ l))
+
+    trend_fine : 2 ^ 53 < nat_abs (D f j k) → trend_answer v j k ≡ Err (record { fault = Fine own_cell; asked = Interval j k })
+    trend_fine l = graded_back ∙ ap (refused (Interval j k)) (cond-false (leb (nat_abs (D f j k)) (2 ^ 53)) (Ok (trend_of j (D f j k))) (Err (Fine own_cell)) (lt-leb _ _ l))
+
 pub reads_back : ReadsBack
-reads_back v f h = (point_back v f h, sum_back v f h, mean_back v f h)
+reads_back v f h = (point_back v f h, sum_back v f h, mean_back v f h, λ j k few i. (trend_back v f h j k few i, trend_fine v f h j k few i))
 
 module _ (m : Meaning) (asked : ℕ) (e : m.bands ≡ 0) where
   no_size : min asked (4 * m.bands) ≡ 0

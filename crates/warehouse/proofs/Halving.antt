@@ -3,6 +3,7 @@ use Rattle.std.proofs.Common.{◌≡◌, ℕ, suc, ◌+◌, ◌-◌, ◌*◌, �
 use lib.Ieee.{Float, nan, inf, fin, binary64, up, down, round, div, of_bits, of_fields}
 use lib.Ieee.Exact.{HasValue, round_exact}
 use lib.Ieee.Scale.{round_same}
+use Rattle.warehouse.specs.Laws.{ExactAmounts}
 
 abbrev pub two : Float
 two = of_bits binary64 4611686018427387904
@@ -51,3 +52,6 @@ halve n k h kl =
     ap (λ (y : Float). div binary64 (round binary64 false n (2 ^ k)) y) two_is
     ∙ half_of (round binary64 false n (2 ^ k)) n (2 ^ k) (pow_pos k) (exact n k h kl)
     ∙ ap (λ (y : ℕ). round binary64 false n y) (sym (pow-add 2 k 1))
+
+pub exact_amounts : ExactAmounts
+exact_amounts n j h some few = exact n (j - 1) h (omega arith)

@@ -4,7 +4,10 @@
 --   SplitFew         into at most 42 intervals
 --   HalvedExactly    twice a half is the sum with its difference, or without it; Torn where there is no such half
 --   RoundedDown      the floor is the greatest integer not over the quotient
-use Rattle.std.specs.Prelude.{◌≡◌, ℕ, ◌+◌, ◌*◌, ◌%◌, ◌^◌, ◌≤◌, List, [], ◌∷◌, length, ℤ, pos, ◌+ℤ◌, ◌-ℤ◌, ◌*ℤ◌, ◌≤ℤ◌, ◌<ℤ◌, Ok, Err, ◌≢◌}
+--   ExactAmounts     the amount of a trend is exact: a finite float with the sign plus, the size divided by 2^(j-1)
+use Rattle.std.specs.Prelude.{◌≡◌, ℕ, ◌+◌, ◌-◌, ◌*◌, ◌%◌, ◌^◌, ◌≤◌, false, List, [], ◌∷◌, length, ℤ, pos, ◌+ℤ◌, ◌-ℤ◌, ◌*ℤ◌, ◌≤ℤ◌, ◌<ℤ◌, Ok, Err, ◌≢◌}
+use lib.Ieee.Exact.{HasValue}
+use Rattle.haar.specs.Trend.{amount}
 use Rattle.warehouse.specs.declared.fault.Fault.{Fault}
 use Rattle.warehouse.specs.declared.fault.Fault.TheVariants.{Torn}
 use Rattle.warehouse.specs.Read.{halve, Interval, interval, pieces, floor}
@@ -32,3 +35,6 @@ HalvedExactly =
 
 abbrev pub RoundedDown : Type 0
 RoundedDown = (z : ℤ) (d : ℕ) → 1 ≤ d → ((pos d *ℤ floor z d) ≤ℤ z) × (z <ℤ (pos d *ℤ floor z d +ℤ pos d))
+
+abbrev pub ExactAmounts : Type 0
+ExactAmounts = (n j : ℕ) → n ≤ 2 ^ 53 → 1 ≤ j → j ≤ 20 → HasValue (amount j n) false n (2 ^ (j - 1))

@@ -1,6 +1,6 @@
 // The laws of reading back: each function states one, and does nothing; the lemma that its attribute names is the proof.
 ghost use Rattle.warehouse.specs.Faithful.{ReadsBack, WithoutBands};
-ghost use Rattle.warehouse.specs.Laws.{SplitGreedy, SplitFew, HalvedExactly, RoundedDown};
+ghost use Rattle.warehouse.specs.Laws.{SplitGreedy, SplitFew, HalvedExactly, RoundedDown, ExactAmounts};
 
 #[tactic(auto, using(crate::proofs::Splits::split_greedy))]
 pub fn split_greedy_stands()
@@ -20,6 +20,11 @@ pub fn halved_exactly_stands()
 #[tactic(auto, using(crate::proofs::Splits::rounded_down))]
 pub fn rounded_down_stands()
     ensures { RoundedDown }
+{}
+
+#[tactic(auto, using(crate::proofs::Halving::exact_amounts))]
+pub fn exact_amounts_stands()
+    ensures { ExactAmounts }
 {}
 
 #[tactic(auto, using(crate::proofs::Faithful::reads_back))]

@@ -1,13 +1,18 @@
 use Rattle.std.proofs.Common.{drop, arith, rules, take_all, length-drop}
-use Rattle.console.proofs.Onward.{onward_none, onward_more, over, all_played}
+use Rattle.console.proofs.Onward.{onward_more, over, halted}
 use Rattle.console.proofs.playing.play.Goals as goal
 
 pub commands-preserved : goal.commands-preserved
 commands-preserved g c =
     let w = c.in-Ok-Some.width in
-    onward_more _ _ _ _ _ _ _ _ _ _ _ c.commands.invariant w _ (take_all _ (drop w c.commands.rest.now) (omega (arith, length-drop w c.commands.rest.now))) (search rules)
+    onward_more _ _ _ _ _ _ _ _ _ _ c.commands.invariant w _ (take_all _ (drop w c.commands.rest.now) (omega (arith, length-drop w c.commands.rest.now))) (search rules)
 
 pub returns-in-Ok-None : goal.returns-in-Ok-None
 returns-in-Ok-None g c =
     over g.O.Sink c.args.sink.now c.commands.sink c.obey_next-next.new.sink _ _ _ c.args.offset c.commands.here c.args.bytes.now c.commands.rest.now c.args.last c.obey_next-next.result.1 (search rules)
     c.commands.invariant (c.is_ready.ensures.enough c.commands-test.true) c.obey_next-next.ensures
+
+pub returns-in-Err : goal.returns-in-Err
+returns-in-Err g c =
+    halted g.O.Sink c.args.sink.now c.commands.sink c.obey_next-next.new.sink _ _ _ c.args.offset c.commands.here c.args.bytes.now c.commands.rest.now c.args.last c.obey_next-next.result.1 c.in-Err.error (search rules)
+    c.commands.invariant c.obey_next-next.ensures

@@ -1,7 +1,7 @@
-use Rattle.std.proofs.Common.{◌+◌, ◌^◌, ◌<◌, ◌≤◌, length, None, ap, ◌∙◌, arith, rules, length-drop}
+use Rattle.std.proofs.Common.{◌+◌, ◌^◌, ◌<◌, ◌≤◌, ◌++◌, length, None, sym, refl, ap, ◌∙◌, subst, append_assoc, arith, rules, length-append, length-drop}
 use Rattle.warehouse.specs.View.{known}
 use Rattle.console.specs.Playing.{state}
-use Rattle.console.proofs.Pieces.{pumped_none, read_more, played_on, drained_last, drained_over, piece_played}
+use Rattle.console.proofs.Pieces.{pumped_none, read_more, stops, stops_at, stuck_at, played_on, drained_last, drained_over, piece_played}
 use Rattle.console.proofs.pumping.pump.Goals as goal
 
 pub pieces-init : goal.pieces-init
@@ -16,7 +16,28 @@ pub returns-then-is_none : goal.returns-then-is_none
 returns-then-is_none g c =
     let p = read_more c.pieces.invariant.pumped c.in-Ok.ensures in
     let long : 2 ^ 64 ≤ c.pieces.offset + length c.bytes-bytes.result.now = search rules in
-    record { bytes = p.bytes; given = p.given; many = omega (arith, p.many, ap length c.bytes-bytes.ensures, long) }
+    let held = c.fill.new.self in (
+      record {
+        bytes = p.front ++ held;
+        given = λ rest x. subst (g.I.Source.gives c.args.source.now) (sym (append_assoc p.front held rest)) (p.given rest x);
+        many = omega (arith, p.many, ap length c.bytes-bytes.ensures, long, length-append p.front held);
+      },
+      stops refl p,
+    )
+
+pub returns-in-Err : goal.returns-in-Err
+returns-in-Err g c = (c.in-Err.ensures, stops refl c.pieces.invariant.pumped)
+
+pub returns-in-Err-played : goal.returns-in-Err-played
+returns-in-Err-played g c =
+    stuck_at g.O.Sink c.args.sink.now c.pieces.sink c.play-next.new.sink _ _ _ c.play-next.result.1 c.in-Err-played.error (search rules) refl c.pieces.invariant.pumped c.in-Ok.ensures c.bytes-bytes.ensures c.play-next.ensures
+
+pub returns-in-Err-flush : goal.returns-in-Err-flush
+returns-in-Err-flush g c =
+    let used = c.in-Ok-Some.used in
+    let q =
+    piece_played g.O.Sink c.args.sink.now c.pieces.sink c.play-next.new.sink c.play-next.result.1 c.pieces.invariant.pumped c.in-Ok.ensures c.bytes-bytes.ensures c.play-next.ensures used (search rules) c.if-last.false in
+    (search rules, stops_at (read_more c.pieces.invariant.pumped c.in-Ok.ensures) used refl c.in-Ok.ensures.some.0 c.in-Ok.ensures.some.1 q.went)
 
 pub returns-in-Ok-None : goal.returns-in-Ok-None
 returns-in-Ok-None g c =
@@ -37,5 +58,5 @@ pieces-preserved g c =
     record {
       few = omega (arith, left, q.few);
       fits = omega (arith, left, q.within, fits, ap length c.bytes-bytes.ensures);
-      pumped = played_on (read_more c.pieces.invariant.pumped c.in-Ok.ensures) (g.O.Sink.took c.flush.new.self) c.drop_front.new.self c.drop_front.ensures q c.in_default.ensures;
+      pumped = played_on (read_more c.pieces.invariant.pumped c.in-Ok.ensures) (g.O.Sink.took c.flush.new.self) c.drop_front.new.self c.in-Ok.ensures.some.0 c.drop_front.ensures c.in-Ok.ensures.some.1 q c.in_default.ensures.0;
     }

@@ -26,4 +26,4 @@ invariant_of-self c =
     let l = length-set s.numbers.now c.args.cell (to_z w64 (of_z w64 c.args.value)) in
     let e = c.zeros_after-zeros.ensures ∙ ap (λ z. s.zeros + weight z) (to_z-of_z w64 _ f) in
     let n = recounted s.numbers.now c.args.cell (cell_count s.bands) _ i s.long s.zeros c.zeros_after-zeros.result e s.counted in
-    record { few = s.few; long = omega (arith, s.long); counted = n }
+    record { few = s.few; sized = s.sized; long = omega (arith, s.long); counted = n }

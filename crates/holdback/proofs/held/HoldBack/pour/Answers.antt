@@ -19,6 +19,6 @@ loop-entry-preserved g c =
     let W : Entry → Type 0 = λ e. Writes (g.S.Store.means c.loop-entry.below) e.cell e.value c.write.result (g.S.Store.means c.write.new.self) in
     let same : entry_at c.entries-entry-items.result.now i ≡ entry_at t.entries i = ap (λ (es : List Entry). entry_at es i) c.entries-entry-items.ensures.all ∙ get_or-take t.used t.entries i _ l in
     let f : SFits w64 (entry_at c.entries-entry-items.result.now i).value = search rules in
-    let w = subst W same (simp to_z-of_z at c.write.ensures) in
+    let w = subst W same (simp to_z-of_z at c.write.ensures.writes) in
     pour_step (g.S.Store.means c.args.self.now.below) t.entries t.used (tidy t) c.requires (g.S.Store.means c.loop-entry.below) (g.S.Store.means c.write.new.self) i c.write.result l
     c.loop-entry.invariant w

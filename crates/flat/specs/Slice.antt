@@ -3,10 +3,8 @@
 --   Greatest n T     T is the greatest number of bands whose cells fit n numbers
 --   slice_means      what a slice means as a store of so many bands with so many zero cells
 --   Made zs          a store as it is made of a slice
---   Placed           what a write does to the whole slice
-use Rattle.std.specs.Prelude.{◌≡◌, ℕ, ◌-◌, ◌<◌, ◌≤◌, true, List, length, ℤ, pos, Ok, Err, Result, slice_index_or, slice_set}
+use Rattle.std.specs.Prelude.{◌≡◌, ℕ, ◌-◌, ◌<◌, ◌≤◌, true, List, length, ℤ, pos, slice_index_or}
 use Rattle.haar.specs.Tiles.{cell_count}
-use Rattle.store.specs.declared.fault.CellFault.{CellFault}
 use Rattle.store.specs.Meaning.{Meaning, filled}
 
 -- the number at a place, and zero past the slice's end
@@ -29,10 +27,3 @@ pub record Made (zs : List ℤ) (m : Meaning) : Type 0 where
   pub cells : (k : ℕ) → k < cell_count m.bands → m.cells k ≡ number_at zs k
   pub room : m.room ≡ pos (cell_count m.bands - filled (number_at zs) (cell_count m.bands))
   pub clean : m.clean ≡ true
-
--- ys is zs after a write of v to cell c of a store of T bands that answered r
-pub record Placed (T : ℕ) (zs : List ℤ) (c : ℕ) (v : ℤ) (r : Result Unit CellFault) (ys : List ℤ) : Type 0 where
-  pub inside : c < cell_count T → r ≡ Ok tt
-  pub put : r ≡ Ok tt → ys ≡ slice_set zs c v
-  pub kept : (f : CellFault) → r ≡ Err f → ys ≡ zs
-  pub rest : (k : ℕ) → cell_count T ≤ k → number_at ys k ≡ number_at zs k

@@ -1,8 +1,8 @@
 // The flat store's calls.
-ghost use Rattle.std.specs.Prelude.{◌≡◌, Ok};
-ghost use Rattle.store.specs.Meaning.{Settles, Writes};
-ghost use Rattle.flat.specs.FlatMeaning.{flat_means, flat_puts};
-ghost use Rattle.flat.specs.Slice.{Placed};
+ghost use Rattle.std.specs.Prelude.{◌≡◌, ◌<◌, Ok, Err};
+ghost use Rattle.haar.specs.Tiles.{cell_count};
+ghost use Rattle.store.specs.Meaning.{Writes};
+ghost use Rattle.flat.specs.FlatMeaning.{flat_means, FlatPuts};
 ghost use Rattle.flat.specs.Laws.{slice_lawful};
 
 use crate::slice::Flat;
@@ -13,7 +13,10 @@ use store::interface::Store;
 impl Store for Flat<'_> {
     ghost means = { flat_means };
 
-    ghost puts = { flat_puts };
+    ghost puts = { FlatPuts };
+
+    // nothing is ever held back: itself, and so the same loan
+    ghost settled = { λ s t. t ≡ s };
 
     ghost laws = { λ s. slice_lawful s.numbers.now s.bands s.zeros s.few s.counted };
 
@@ -26,12 +29,12 @@ impl Store for Flat<'_> {
         Ok(self.numbers[cell as usize])
     }
 
-    // Never full: a zero cell is room for its own number. `lender` says that the same loan comes back: no type can.
+    // Never full: a zero cell is room for its own number.
     fn write(&mut self, cell: u32, value: i64) -> Result<(), CellFault>
         ensures writes { Writes (flat_means self.old) cell value result (flat_means self.new) }
-        ensures puts { result ≡ Ok tt → flat_puts self.old cell value self.new }
-        ensures lender { self.new.numbers.ghost_name ≡ self.old.numbers.ghost_name }
-        ensures placed { Placed self.old.bands self.old.numbers.now cell value result self.new.numbers.now }
+        ensures puts { result ≡ Ok tt → FlatPuts self.old cell value self.new }
+        ensures refused { (f : CellFault) → result ≡ Err f → self.new ≡ self.old }
+        ensures never_full { cell < cell_count self.old.bands → result ≡ Ok tt }
     {
         self.check(cell)?;
         let zeros = zeros_after(self.zeros, self.numbers[cell as usize], value);
@@ -54,9 +57,5 @@ impl Store for Flat<'_> {
         true
     }
 
-    // nothing is ever held back
-    fn settle(&mut self)
-        ensures settles { Settles (flat_means self.old) (flat_means self.new) }
-        ensures same { self.new ≡ self.old }
-    {}
+    fn settle(&mut self) {}
 }

@@ -8,13 +8,14 @@ use Rattle.store.specs.declared.fault.CellFault.{CellFault}
 use Rattle.store.specs.declared.fault.CellFault.TheVariants.{Full}
 use Rattle.store.specs.Meaning.{Meaning, weight, Reads, Writes, Fits, Bars, Put}
 use Rattle.store.specs.Contents.{Puts, Stored}
+use Rattle.store.specs.Writing.{Putting}
 use Rattle.store.specs.Table.{FindsAmong, StoredAmong}
 use Rattle.store.proofs.Counting.{weight_one}
 use Rattle.store.proofs.Lookups.{miss}
 use Rattle.store.proofs.Storing.{unheld, stored_none, puts_refused}
 use Rattle.store.proofs.Tidy.{Tidy, tidy}
 use Rattle.holdback.specs.declared.held.HoldBack.{HoldBack}
-use Rattle.holdback.specs.Layer.{Goes, Untouched, layer_means}
+use Rattle.holdback.specs.Layer.{Goes, layer_means}
 use Rattle.holdback.specs.Over.{choose, held_over}
 use Rattle.holdback.proofs.Counted.{choose_held, choose_none}
 use Rattle.holdback.proofs.Holding.{hold_puts, pass_puts}
@@ -66,15 +67,15 @@ writes_passed m m' es fs n k c v r inside t u free below s w =
     subst W (sym ok) (writes_done (held_over es n m) (held_over fs k m') c v inside free (pass_puts m m' es fs n k c v inside t u s (w.put ok)))
 
 -- what a write's contract says
-pub record Written {S : Type 0} (means : S → Meaning) (puts : S → ℕ → ℤ → S → Type 0) (h k : HoldBack S) (c : ℕ) (v : ℤ) (r : Result Unit CellFault) : Type 0 where
+pub record Answered {S : Type 0} (means : S → Meaning) (puts : Putting S) (h k : HoldBack S) (c : ℕ) (v : ℤ) (r : Result Unit CellFault) : Type 0 where
   pub writes : Writes (layer_means means h) c v r (layer_means means k)
   pub goes : r ≡ Ok tt → Goes means puts h c v k
-  pub refused : (f : CellFault) → r ≡ Err f → Untouched h k
+  pub refused : (f : CellFault) → r ≡ Err f → k ≡ h
 
-module _ {S : Type 0} (means : S → Meaning) (puts : S → ℕ → ℤ → S → Type 0) (h k : HoldBack S) (c : ℕ) (v : ℤ) where
+module _ {S : Type 0} (means : S → Meaning) (puts : Putting S) (h k : HoldBack S) (c : ℕ) (v : ℤ) where
   -- a number other than zero: held, or, where no entry is free for it, written below, which has room where the layer has
   pub written_nonzero : (held r : Result Unit CellFault) → c < cell_count (means h.below).bands → (v ≢ pos 0) → (Bars (layer_means means h) c v → ⊥) → Puts 64 h.held c v held k.held
-      → MatchResult held (λ _. (k.below ≡ h.below) × (r ≡ Ok tt)) (λ _. Writes (means h.below) c v r (means k.below) × (r ≡ Ok tt → puts h.below c v k.below)) → Written means puts h k c v r
+      → MatchResult held (λ _. (k.below ≡ h.below) × (r ≡ Ok tt)) (λ _. Writes (means h.below) c v r (means k.below) × (r ≡ Ok tt → puts h.below c v k.below)) → Answered means puts h k c v r
   written_nonzero (Ok d) r inside some free p f =
       let P : S → Type 0 = λ b. Put (layer_means means h) c v (held_over k.held.entries k.held.used (means b)) in
       let W : Result Unit CellFault → Type 0 = λ x. Writes (layer_means means h) c v x (layer_means means k) in
@@ -108,7 +109,7 @@ module _ {S : Type 0} (means : S → Meaning) (puts : S → ℕ → ℤ → S �
 
   -- zero, which needs no room
   pub written_zero : (r : Result Unit CellFault) → c < cell_count (means h.below).bands → v ≡ pos 0 → Stored h.held c (pos 0) k.held → Writes (means h.below) c (pos 0) r (means k.below)
-      → (r ≡ Ok tt → puts h.below c (pos 0) k.below) → Written means puts h k c v r
+      → (r ≡ Ok tt → puts h.below c (pos 0) k.below) → Answered means puts h k c v r
   written_zero r inside z s w p =
       let none : (m : Meaning) → Bars m c (pos 0) → ⊥ = λ m b. omega (arith, b.1) in
       let W : ℤ → Type 0 = λ x. Writes (layer_means means h) c x r (layer_means means k) in

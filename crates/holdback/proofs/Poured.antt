@@ -1,5 +1,5 @@
 -- Settling: each held number written below in turn, with room for all of them.
-use Rattle.std.proofs.Common.{◌≡◌, ℕ, zero, suc, ◌+◌, ◌<◌, ◌≤◌, List, ℤ, pos, ◌-ℤ◌, ◌≤ℤ◌, Result, sym, refl, ap, ◌∙◌, subst, inl, inr, add-one, arith}
+use Rattle.std.proofs.Common.{◌≡◌, ℕ, zero, suc, ◌+◌, ◌<◌, ◌≤◌, List, ℤ, pos, ◌-ℤ◌, ◌≤ℤ◌, Ok, Err, Result, sym, refl, ap, ◌∙◌, subst, inl, inr, add-one, arith}
 use Rattle.std.proofs.lemmas.Int.{ints}
 use Rattle.std.proofs.lemmas.Bool.{cases_eq, cases_lt}
 use Rattle.std.proofs.lemmas.Bool.Decides.{nat_tests}
@@ -8,6 +8,8 @@ use Rattle.store.specs.declared.entry.Entry.{Entry}
 use Rattle.store.specs.declared.fault.CellFault.{CellFault}
 use Rattle.store.specs.Meaning.{Meaning, weight, Bars, Same, Put, Writes, Settles}
 use Rattle.store.specs.Table.{entry_at}
+use Rattle.store.specs.Writing.{Putting}
+use Rattle.holdback.specs.Layer.{Sinks}
 use Rattle.holdback.specs.Over.{fresh, held_over}
 use Rattle.store.proofs.Tidy.{Tidy, tidy_part}
 use Rattle.store.proofs.Counting.{weight_one}
@@ -89,6 +91,16 @@ module _ (m₀ : Meaning) (es : List Entry) (n : ℕ) (t : Tidy es n) (room : po
             let k = (w.kept _ (w.outside (subst P (sym s.bands) past))).0 in
             same_trans (held_over es (suc i) m₀) (held_over es i m₀) m' (held_refused m₀ es i past) (same_trans (held_over es i m₀) m m' s k)
       ])
+
+  -- it is in full what the store below makes of it
+  pub sinks : {S : Type 0} (means : S → Meaning) (puts : Putting S) (s s' : S) (i : ℕ) (r : Result Unit CellFault)
+      → i < n → Same (held_over es i m₀) (means s) → Writes (means s) (entry_at es i).cell (entry_at es i).value r (means s')
+      → (r ≡ Ok tt → puts s (entry_at es i).cell (entry_at es i).value s') → ((f : CellFault) → r ≡ Err f → s' ≡ s)
+      → Sinks means puts s (entry_at es i).cell (entry_at es i).value s'
+  sinks means puts s s' i r l same w put refused = record {
+    inside = λ h. put (w.done h (free (means s) i l (inside_of (means s) m₀ _ (sym same.bands) h) same));
+    outside = λ h. refused _ (w.outside h);
+  }
 
   -- all of them, and the store below settled
   pub settled : (m m' : Meaning) (fs : List Entry) → Same (held_over es n m₀) m → Settles m m' → Settles (held_over es n m₀) (held_over fs 0 m')

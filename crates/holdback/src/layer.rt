@@ -1,8 +1,6 @@
 // The layer's calls as a store.
-ghost use Rattle.std.specs.Prelude.{◌≡◌, pos, ◌<ℤ◌, Ok, Err};
-ghost use Rattle.store.specs.Meaning.{Writes, Settles};
 ghost use Rattle.holdback.specs.Laws.{layer_lawful};
-ghost use Rattle.holdback.specs.Layer.{layer_means, Goes, Untouched};
+ghost use Rattle.holdback.specs.Layer.{layer_means, Goes, Rests};
 
 use crate::held::{HoldBack, MOST};
 use store::fault::{CellFault, check_cell};
@@ -12,6 +10,8 @@ impl<S: Store> Store for HoldBack<S> {
     ghost means = { layer_means S.Store.means };
 
     ghost puts = { Goes S.Store.means S.Store.puts };
+
+    ghost settled = { Rests S.Store.means S.Store.puts S.Store.settled };
 
     ghost laws = { λ h. layer_lawful _ _ _ (S.Store.laws h.below) };
 
@@ -25,11 +25,7 @@ impl<S: Store> Store for HoldBack<S> {
     }
 
     // A number is held if its cell is held already or an entry is free, and else goes below; zero goes to both.
-    fn write(&mut self, cell: u32, value: i64) -> Result<(), CellFault>
-        ensures writes { Writes (layer_means S.Store.means self.old) cell value result (layer_means S.Store.means self.new) }
-        ensures goes { result ≡ Ok tt → Goes S.Store.means S.Store.puts self.old cell value self.new }
-        ensures refused { (f : CellFault) → result ≡ Err f → Untouched self.old self.new }
-    {
+    fn write(&mut self, cell: u32, value: i64) -> Result<(), CellFault> {
         check_cell(self.below.bands(), cell)?;
         if value == 0 {
             self.held.remove(cell);
@@ -54,10 +50,7 @@ impl<S: Store> Store for HoldBack<S> {
     }
 
     // Without room for what is held nothing is done, here and below.
-    fn settle(&mut self)
-        ensures settles { Settles (layer_means S.Store.means self.old) (layer_means S.Store.means self.new) }
-        ensures waits { (layer_means S.Store.means self.old).room <ℤ pos 0 → Untouched self.old self.new }
-    {
+    fn settle(&mut self) {
         if !self.has_room(0) {
             return;
         }

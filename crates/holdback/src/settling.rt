@@ -1,7 +1,9 @@
 // The held numbers written below.
 ghost use Rattle.std.specs.Prelude.{pos, ◌≤ℤ◌};
+ghost use Rattle.store.specs.Contents.{in_use};
 ghost use Rattle.store.specs.Meaning.{Same, Settles};
-ghost use Rattle.holdback.specs.Layer.{layer_means};
+ghost use Rattle.store.specs.Writing.{Written};
+ghost use Rattle.holdback.specs.Layer.{layer_means, Sinks, Pours};
 
 use crate::held::HoldBack;
 use store::interface::Store;
@@ -11,7 +13,8 @@ impl<S: Store> HoldBack<S> {
     // There is room for all; a cell that is refused below does not count, and its number is dropped.
     fn pour(&mut self)
         requires { pos 0 ≤ℤ (layer_means S.Store.means self.old).room }
-        ensures { Same (layer_means S.Store.means self.old) (S.Store.means self.new.below) }
+        ensures same { Same (layer_means S.Store.means self.old) (S.Store.means self.new.below) }
+        ensures sunk { Written (Sinks S.Store.means S.Store.puts) (in_use self.old.held) self.old.below self.new.below }
     {
         let HoldBack { below, held } = self;
         for entry in held.entries() {
@@ -22,7 +25,8 @@ impl<S: Store> HoldBack<S> {
     // Brings every held number below, and has the store below settle: then none is held.
     pub(crate) fn bring_down(&mut self)
         requires { pos 0 ≤ℤ (layer_means S.Store.means self.old).room }
-        ensures { Settles (layer_means S.Store.means self.old) (layer_means S.Store.means self.new) }
+        ensures settles { Settles (layer_means S.Store.means self.old) (layer_means S.Store.means self.new) }
+        ensures pours { Pours S.Store.means S.Store.puts S.Store.settled self.old self.new }
     {
         self.pour();
         self.held.clear();

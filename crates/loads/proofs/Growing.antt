@@ -1,16 +1,19 @@
 -- The cells of a growth, and writing the total to them.
-use Rattle.std.proofs.Common.{◌≡◌, ℕ, suc, ◌+◌, ◌-◌, ◌*◌, ◌/◌, ◌<◌, Bool, true, false, cond, ℤ, pos, ◌+ℤ◌, ◌≤ℤ◌, Some, None, Option, sym, refl, ap, ◌∙◌, subst, inl, inr, ⊎_elim, ◌⊎◌, arith, pow_pos}
+use Rattle.std.proofs.Common.{◌≡◌, ℕ, zero, suc, ◌+◌, ◌-◌, ◌*◌, ◌/◌, ◌<◌, Bool, true, false, cond, [], ◌∷◌, ℤ, pos, ◌+ℤ◌, ◌≤ℤ◌, Some, None, Option, sym, refl, ap, ◌∙◌, subst, inl, inr, ⊎_elim, ◌⊎◌, arith, pow_pos}
 use Rattle.std.proofs.lemmas.Int.{ints}
 use Rattle.std.proofs.lemmas.Bool.{cases_eq}
 use Rattle.std.proofs.lemmas.Bool.Decides.{nat_tests}
+use Rattle.std.proofs.lemmas.List.Elements.{All-nil, All-cons}
 use Rattle.haar.specs.declared.coefficient.Coefficient.TheVariants.{TileSum, Difference}
-use Rattle.haar.specs.Tiles.{cell_count, Inside}
+use Rattle.haar.specs.Tiles.{depth, tiles_before, cell_count, Inside}
 use Rattle.haar.specs.Count.{bands_in_use}
 use Rattle.haar.specs.Growth.{Fills}
 use Rattle.haar.proofs.Numbers.{one_coefficient, inside_below}
+use Rattle.store.specs.declared.entry.Entry.{Entry}
 use Rattle.store.specs.Meaning.{Meaning, weight, filled, Bars, Put}
+use Rattle.store.specs.Writing.{entry, Rising}
 use Rattle.store.proofs.Counting.{put_keeps}
-use Rattle.loads.specs.Growing.{total_cell, top_cell, tile_cell, fills, newly, Topped}
+use Rattle.loads.specs.Growing.{total_cell, top_cell, tile_cell, fills, newly, total_writes, Topped}
 
 module _ (T n : ℕ) (below : n < 4 * T) where
   total_inside : Inside n (TileSum (bands_in_use n - 1) 0)
@@ -42,6 +45,23 @@ fills_is n e = grind (arith, nat_tests)
 
 pub fills_not : (n : ℕ) → fills n ≡ false → Fills n → ⊥
 fills_not n e f = let a = f.0 in let b = f.1 in grind (arith, nat_tests)
+
+-- in the tile that comes in use, slot 0 is below the difference on top
+tile_first : (T n : ℕ) → n < 4 * T → Fills n → tile_cell T n < top_cell T n
+tile_first zero n below f = absurd (omega arith)
+tile_first (suc top) n below f =
+    let e : (suc n - 1) / 4 ≡ n / 4 = omega arith in
+    omega (arith, ap (λ t. tiles_before (top - t)) e, pow_pos (depth (suc n)))
+
+rises : (T n : ℕ) (z : ℤ) → n < 4 * T → (b : Bool) → fills n ≡ b
+    → Rising (cond b (entry (tile_cell T n) z ∷ entry (top_cell T n) z ∷ []) (entry (top_cell T n) z ∷ []))
+rises T n z below true e =
+    let P : Entry → Type 0 = λ w. tile_cell T n < w.cell in
+    (All-cons P (entry (top_cell T n) z) [] (tile_first T n below (fills_is n e)) (All-nil P), (All-nil (λ w. top_cell T n < w.cell), tt))
+rises T n z below false e = (All-nil (λ w. top_cell T n < w.cell), tt)
+
+pub total_rises : (T n : ℕ) (z : ℤ) → n < 4 * T → Rising (total_writes T n z)
+total_rises T n z below = rises T n z below (fills n) refl
 
 -- which cells there are
 pub some_tile : (b : Bool) (at tile : ℕ) (o : Option ℕ) → o ≡ cond b (Some at) None → o ≡ Some tile → (b ≡ true) × (tile ≡ at)

@@ -12,3 +12,4 @@ pub mod Partly
 pub mod Adding
 pub mod Guarded
 pub mod Growing
+pub mod Writes

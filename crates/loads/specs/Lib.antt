@@ -4,6 +4,7 @@ pub mod Share
 pub mod Tree
 pub mod Loads
 pub mod Passes
+pub mod Writes
 pub mod Skips
 pub mod Adds
 pub mod Addition

@@ -2,15 +2,20 @@
 --   IsOpen r m p k     the answer is a load of level m and index p with k values taken
 --   HandedBack l f r   the answer is the load l again, with the fault f
 --   Begins, Takes, Finishes   what the calls answer, and what they leave
+--   FinishedTo         what a finish makes of a warehouse in full
 use Rattle.std.specs.Prelude.{◌≡◌, ℕ, ◌+◌, ◌^◌, ◌<◌, ◌≤◌, List, length, take, ℤ, Ok, Err, Result, slice_set}
 use Rattle.warehouse.specs.declared.fault.Asked.TheVariants.{Interval}
 use Rattle.warehouse.specs.declared.fault.Fault.{Fault}
 use Rattle.warehouse.specs.declared.fault.Fault.TheVariants.{Level, Buffer, Domain, Short, Over}
 use Rattle.warehouse.specs.declared.fault.Refusal.{Refusal}
+use Rattle.store.specs.Meaning.{Meaning}
+use Rattle.store.specs.Writing.{Putting}
+use Rattle.warehouse.specs.declared.record.Warehouse.{Warehouse}
 use Rattle.warehouse.specs.View.{View}
 use Rattle.loads.specs.declared.open.OpenLoad.{OpenLoad}
 use Rattle.loads.specs.declared.open.RefusedLoad.{RefusedLoad}
 use Rattle.loads.specs.Addition.{Lies, Additions}
+use Rattle.loads.specs.Writes.{AddedTo}
 
 -- a load of level m and index p with k values taken
 pub record Open (l : OpenLoad) (m p k : ℕ) : Type 0 where
@@ -56,3 +61,7 @@ pub record Finished (v : View) (m p taken : ℕ) (zs : List ℤ) (r : Result ℕ
 abbrev pub Finishes : OpenLoad → View → List ℤ → Result ℕ RefusedLoad → View → Type 0
 Finishes l v zs (Ok w) v' = Finished v l.level l.index l.taken zs (Ok w) v'
 Finishes l v zs (Err e) v' = Returned l e.refusal.fault e × Finished v l.level l.index l.taken zs (Err e.refusal.fault) v'
+
+-- a finish in full
+abbrev pub FinishedTo : {S E : Type 0} → (S → Meaning) → Putting S → OpenLoad → Warehouse S → List ℤ → Result ℕ E → Warehouse S → Type 0
+FinishedTo means puts l w zs r w' = AddedTo means puts w l.level l.index (take (2 ^ l.level) zs) r w'

@@ -19,7 +19,8 @@ pub(crate) fn number_in<S: Store>(store: &S, cell: u32) -> i64
 pub(crate) fn put<S: Store>(store: &mut S, cell: u32, number: i64)
     requires inside { cell < cell_count (S.means store.old).bands }
     requires free { Bars (S.means store.old) cell number → ⊥ }
-    ensures { Put (S.means store.old) cell number (S.means store.new) }
+    ensures put { Put (S.means store.old) cell number (S.means store.new) }
+    ensures puts { S.puts store.old cell number store.new }
 {
     let _ = store.write(cell, number);
 }

@@ -4,9 +4,10 @@ ghost use Rattle.haar.specs.Load.{Loaded};
 ghost use Rattle.haar.specs.Tiles.{cell_count};
 ghost use Rattle.loads.specs.Reach.{at_reach};
 ghost use Rattle.loads.specs.Loads.{Large, Clear, Checked, Stored, fresh};
-ghost use Rattle.loads.specs.Passes.{Seen, Partly};
+ghost use Rattle.loads.specs.Passes.{Seen};
 ghost use Rattle.loads.specs.Adds.{Adds};
-ghost use Rattle.loads.specs.Skips.{seen_skip, partly_skip};
+ghost use Rattle.loads.specs.Skips.{seen_skip, underway_skip};
+ghost use Rattle.loads.specs.Writes.{Underway, WroteAll, Added};
 
 use crate::cells::{added, number_in, put, starts};
 use crate::share::ChunkTree;
@@ -44,9 +45,10 @@ pub struct Writing<'s, S: Store> {
 }
 
 impl<S: Store> Pass for Writing<'_, S> {
-    ghost passed = { λ r g x y a. (y.store.ghost_name ≡ x.store.ghost_name) × at_reach r Partly g (S.means x.store.now) (S.means y.store.now) a };
+    ghost passed = { λ r g x y a. (y.store.ghost_name ≡ x.store.ghost_name)
+        × at_reach r (Underway S.means S.puts) g x.store.now y.store.now a };
 
-    ghost skip = { λ r g x y a b passed le most gap. (passed.0, partly_skip r.bands r.size r.level r.index g _ _ a passed.1 b le most gap) };
+    ghost skip = { λ r g x y a b h le most gap. (h.0, underway_skip r g S.means S.puts _ _ a h.1 b le most gap) };
 
     ghost stopped = { λ r g x c. ⊥ };
 
@@ -66,7 +68,7 @@ pub struct Load<'s, 'c, S: Store> {
 }
 
 impl<S: Store> Load<'_, '_, S> {
-    ghost use Rattle.loads.specs.Tree.{minutes_of};
+    ghost use Rattle.loads.specs.Tree.{minutes_of, at_chunk};
 
     // how many touched cells go from zero to nonzero, or the lowest whose new number is too large
     fn check(&self) -> Result<u32, u32>
@@ -85,6 +87,7 @@ impl<S: Store> Load<'_, '_, S> {
         requires small { at_reach self.old.chunk.reach Clear (minutes_of self.old.chunk) (S.means self.old.store.now).cells (cell_count self.old.chunk.reach.bands) }
         requires room { (y : ℕ → ℤ) → at_reach self.old.chunk.reach Loaded (minutes_of self.old.chunk) (S.means self.old.store.now).cells y → pos (fresh (S.means self.old.store.now).cells y (cell_count self.old.chunk.reach.bands)) ≤ℤ (S.means self.old.store.now).room }
         ensures same_store { self.new.store.ghost_name ≡ self.old.store.ghost_name }
+        ensures wrote { at_chunk self.old.chunk (WroteAll S.means S.puts) self.old.store.now self.new.store.now }
         ensures stored { at_reach self.old.chunk.reach Stored (minutes_of self.old.chunk) (S.means self.old.store.now) (S.means self.new.store.now) }
     {
         let chunk = self.chunk;
@@ -96,6 +99,7 @@ impl<S: Store> Load<'_, '_, S> {
     // The count of cells written, or why nothing was.
     pub(crate) fn add(&mut self) -> Result<u32, Fault>
         ensures same_store { self.new.store.ghost_name ≡ self.old.store.ghost_name }
+        ensures added { at_chunk self.old.chunk (Added S.means S.puts) self.old.store.now result self.new.store.now }
         ensures adds { at_reach self.old.chunk.reach Adds (minutes_of self.old.chunk) (S.means self.old.store.now) result (S.means self.new.store.now) }
     {
         let reach = self.chunk.reach;

@@ -1,7 +1,9 @@
 // Growing a warehouse by one level.
 ghost use Rattle.std.specs.Prelude.{◌≡◌, ℕ, ◌*◌, ◌<◌, ◌≤◌, cond, Some, None, pos, ◌≤ℤ◌};
+ghost use Rattle.store.specs.Writing.{Written};
 ghost use Rattle.warehouse.specs.View.{known};
-ghost use Rattle.loads.specs.Growing.{total_cell, top_cell, tile_cell, lowest_written, fills, newly, Topped, Grows, Growth};
+ghost use Rattle.loads.specs.Growing.{total_cell, top_cell, tile_cell, lowest_written, fills, newly, total_writes};
+ghost use Rattle.loads.specs.Growing.{Topped, Grows, Growth, GrownTo};
 
 use crate::cells::{number_in, put, starts};
 use haar::cells::{difference_cell, sum_cell};
@@ -77,6 +79,7 @@ impl<'a, S: Store> GrowthCells<'a, S> {
     fn write(&mut self, total: i64)
         requires { pos (newly self.old.bands self.old.size total (S.means self.old.store.now).cells) ≤ℤ (S.means self.old.store.now).room }
         ensures same_store { self.new.store.ghost_name ≡ self.old.store.ghost_name }
+        ensures wrote { Written S.puts (total_writes self.old.bands self.old.size total) self.old.store.now self.new.store.now }
         ensures topped { Topped self.old.size total (S.means self.old.store.now) (S.means self.new.store.now) }
     {
         if let Some(tile) = self.tile {
@@ -88,7 +91,8 @@ impl<'a, S: Store> GrowthCells<'a, S> {
 
 // The checks of a growth in their order, and its writing.
 fn raise<S: Store>(warehouse: &mut Warehouse<S>) -> Result<u8, Fault>
-    ensures { Grows (known S.means warehouse.old) result (known S.means warehouse.new) }
+    ensures whole { GrownTo S.means S.puts warehouse.old result warehouse.new }
+    ensures grows { Grows (known S.means warehouse.old) result (known S.means warehouse.new) }
 {
     let size = warehouse.size();
     let bands = warehouse.store.bands();
@@ -111,7 +115,8 @@ fn raise<S: Store>(warehouse: &mut Warehouse<S>) -> Result<u8, Fault>
 
 // One level more: the size after it, or why the size is kept.
 pub fn grow<S: Store>(warehouse: &mut Warehouse<S>) -> Result<u8, Refusal>
-    ensures { Growth (known S.means warehouse.old) result (known S.means warehouse.new) }
+    ensures whole { GrownTo S.means S.puts warehouse.old result warehouse.new }
+    ensures growth { Growth (known S.means warehouse.old) result (known S.means warehouse.new) }
 {
     let size = warehouse.size();
     answered(raise(warehouse), Asked::Size(size))

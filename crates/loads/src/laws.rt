@@ -1,5 +1,5 @@
 // The laws of additions and growths.
-ghost use Rattle.loads.specs.Keeps.{Keeps, GrowthKeeps};
+ghost use Rattle.loads.specs.Keeps.{Keeps, GrowthKeeps, GrowthRises};
 
 pub fn keeps_stands()
     ensures { Keeps }
@@ -7,4 +7,8 @@ pub fn keeps_stands()
 
 pub fn growth_keeps_stands()
     ensures { GrowthKeeps }
+{}
+
+pub fn growth_rises_stands()
+    ensures { GrowthRises }
 {}

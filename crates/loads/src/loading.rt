@@ -3,7 +3,7 @@ ghost use Rattle.std.specs.Prelude.{◌≡◌, ℕ, ◌^◌, ◌<◌, ◌≤◌,
 ghost use Rattle.warehouse.specs.View.{known};
 ghost use Rattle.warehouse.specs.declared.fault.Fault.TheVariants.{Level, Domain};
 ghost use Rattle.loads.specs.Addition.{Lies};
-ghost use Rattle.loads.specs.Opening.{IsOpen, Returned, Begins, Takes, Finished, Finishes};
+ghost use Rattle.loads.specs.Opening.{IsOpen, Returned, Begins, Takes, Finished, Finishes, FinishedTo};
 
 use crate::open::{OpenLoad, RefusedLoad};
 use crate::values::add_values;
@@ -73,6 +73,7 @@ impl OpenLoad {
         buffer: &mut [i64],
     ) -> Result<u32, Fault>
         ensures restored { buffer.new ≡ buffer.old }
+        ensures whole { FinishedTo S.means S.puts self.now warehouse.old buffer.old result warehouse.new }
         ensures finished { Finished (known S.means warehouse.old) self.now.level self.now.index self.now.taken buffer.old result (known S.means warehouse.new) }
     {
         let many = self.chunk_len();
@@ -92,6 +93,7 @@ impl OpenLoad {
         buffer: &mut [i64],
     ) -> Result<u32, RefusedLoad>
         ensures restored { buffer.new ≡ buffer.old }
+        ensures whole { FinishedTo S.means S.puts self warehouse.old buffer.old result warehouse.new }
         ensures finishes { Finishes self (known S.means warehouse.old) buffer.old result (known S.means warehouse.new) }
     {
         // by match: either arm uses up the load, and a closure of map_err would hold it in both

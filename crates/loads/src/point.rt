@@ -1,6 +1,8 @@
 // Adding to one minute.
+ghost use Rattle.std.specs.Prelude.{[], ◌∷◌};
 ghost use Rattle.warehouse.specs.View.{known};
 ghost use Rattle.loads.specs.Addition.{AddsPoint};
+ghost use Rattle.loads.specs.Writes.{AddedTo};
 
 use crate::values::add_values;
 use store::interface::Store;
@@ -14,7 +16,8 @@ pub fn add_point<S: Store>(
     minute: u32,
     value: i64,
 ) -> Result<u32, Refusal>
-    ensures { AddsPoint (known S.means warehouse.old) minute value result (known S.means warehouse.new) }
+    ensures added { AddedTo S.means S.puts warehouse.old 0 minute (value ∷ []) result warehouse.new }
+    ensures adds { AddsPoint (known S.means warehouse.old) minute value result (known S.means warehouse.new) }
 {
     answered(
         add_values(warehouse, 0, minute, &mut [value]),

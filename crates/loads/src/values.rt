@@ -2,6 +2,7 @@
 ghost use Rattle.std.specs.Prelude.{◌≡◌, ℕ, ◌-◌, ◌*◌, ◌^◌, ◌<◌, ◌≤◌, true, false, length, pos, MatchOption, slice_index_or};
 ghost use Rattle.warehouse.specs.View.{known};
 ghost use Rattle.loads.specs.Addition.{Limit, Limited, Additions};
+ghost use Rattle.loads.specs.Writes.{AddedTo};
 
 use crate::chunk::Load;
 use crate::reach::Reach;
@@ -32,6 +33,7 @@ pub(crate) fn add_values<S: Store>(
     requires short { level ≤ 12 }
     requires many { length values.old ≡ 2 ^ level }
     ensures restored { values.new ≡ values.old }
+    ensures added { AddedTo S.means S.puts warehouse.old level index values.old result warehouse.new }
     ensures adds { Additions (known S.means warehouse.old) level index values.old result (known S.means warehouse.new) }
 {
     if !warehouse.has(level, index) {

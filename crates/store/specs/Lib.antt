@@ -1,4 +1,5 @@
 pub mod Meaning
+pub mod Writing
 pub mod Faults
 pub mod Table
 pub mod Contents

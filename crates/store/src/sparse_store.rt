@@ -1,4 +1,5 @@
 // The sparse store's calls.
+ghost use Rattle.std.specs.Prelude.{◌≡◌};
 ghost use Rattle.store.specs.Laws.{table_lawful};
 ghost use Rattle.store.specs.SparseMeaning.{sparse_means, sparse_puts};
 
@@ -10,6 +11,9 @@ impl Store for Sparse {
     ghost means = { sparse_means };
 
     ghost puts = { sparse_puts };
+
+    // nothing is ever held back
+    ghost settled = { λ s t. t ≡ s };
 
     ghost laws = { λ s. table_lawful s.table s.bands s.capacity s.few s.bounded };
 
@@ -35,6 +39,5 @@ impl Store for Sparse {
         true
     }
 
-    // nothing is ever held back
     fn settle(&mut self) {}
 }

@@ -55,7 +55,8 @@ impl<S: Store> Warehouse<S> {
     }
 
     pub fn settle(&mut self)
-        ensures store { Settles (S.means self.old.store) (S.means self.new.store) }
+        ensures settles { Settles (S.means self.old.store) (S.means self.new.store) }
+        ensures store { S.settled self.old.store self.new.store }
         ensures size { self.new.asked ≡ self.old.asked }
     {
         self.store.settle();
@@ -63,7 +64,8 @@ impl<S: Store> Warehouse<S> {
 
     // The store, settled.
     pub fn close(mut self) -> S
-        ensures { Settles (S.means self.store) (S.means result) }
+        ensures settles { Settles (S.means self.store) (S.means result) }
+        ensures store { S.settled self.store result }
     {
         self.settle();
         self.store

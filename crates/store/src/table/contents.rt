@@ -1,5 +1,5 @@
 // What a table's calls find in it and do to it.
-ghost use Rattle.std.specs.Prelude.{◌≡◌, ◌<◌, ◌≢◌, length, min, pos, MatchResult};
+ghost use Rattle.std.specs.Prelude.{◌≡◌, ◌<◌, ◌≢◌, length, min, pos, Err, MatchResult};
 ghost use Rattle.store.specs.Contents.{Empty, in_use, cell_at, Held, Gap, Finds, Stored, Puts};
 
 use crate::entry::{EMPTY, Entry};
@@ -34,7 +34,8 @@ impl<const N: usize> Table<N> {
 
     // Another number for a cell; zero takes its entry out. A new entry is refused where `most` or all are in use.
     pub fn put(&mut self, cell: u32, value: i64, most: usize) -> Result<(), CellFault>
-        ensures { Puts (min most N) self.old cell value result self.new }
+        ensures puts { Puts (min most N) self.old cell value result self.new }
+        ensures refused { (f : CellFault) → result ≡ Err f → self.new ≡ self.old }
     {
         if value == 0 {
             self.remove(cell);

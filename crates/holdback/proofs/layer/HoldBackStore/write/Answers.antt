@@ -10,7 +10,7 @@ returns-then-value-eq0 g c =
     let inside : c.args.cell < cell_count (g.S.Store.means h.below).bands = search rules in
     let z : c.args.value ≡ pos 0 = omega (arith, ints) in
     let done = written_zero g.S.Store.means g.S.Store.puts h (record { below = c.write.new.self; held = c.remove.new.self }) c.args.cell c.args.value _ inside z c.remove.ensures c.write.ensures.writes c.write.ensures.puts in
-    record { writes = done.writes; goes = done.goes; refused = done.refused }
+    record { writes = done.writes; puts = done.goes; refused = done.refused }
 
 pub returns-in-Ok : goal.returns-in-Ok
 returns-in-Ok g c =
@@ -18,8 +18,8 @@ returns-in-Ok g c =
     let f : SFits w64 c.args.value = c.ranges.value in
     let inside : c.args.cell < cell_count (g.S.Store.means h.below).bands = search rules in
     let some : c.args.value ≢ pos 0 = λ e. omega (arith, ints) in
-    let done = written_nonzero g.S.Store.means g.S.Store.puts h (record { below = h.below; held = c.put.new.self }) c.args.cell c.args.value _ (Ok tt) inside some (λ b. let no = (c.if-is_barred.ensures c.args.value some).1 b in cc) (simp to_z-of_z at c.in-Ok.ensures) (refl, refl) in
-    record { writes = done.writes; goes = done.goes; refused = done.refused }
+    let done = written_nonzero g.S.Store.means g.S.Store.puts h (record { below = h.below; held = c.put.new.self }) c.args.cell c.args.value _ (Ok tt) inside some (λ b. let no = (c.if-is_barred.ensures c.args.value some).1 b in cc) (simp to_z-of_z at c.in-Ok.ensures.puts) (refl, refl) in
+    record { writes = done.writes; puts = done.goes; refused = done.refused }
 
 pub returns-in-Err : goal.returns-in-Err
 returns-in-Err g c =
@@ -28,5 +28,5 @@ returns-in-Err g c =
     let inside : c.args.cell < cell_count (g.S.Store.means h.below).bands = search rules in
     let some : c.args.value ≢ pos 0 = λ e. omega (arith, ints) in
     let below = c.write-in-Err.ensures in
-    let done = written_nonzero g.S.Store.means g.S.Store.puts h (record { below = c.write-in-Err.new.self; held = c.put.new.self }) c.args.cell c.args.value _ _ inside some (λ b. let no = (c.if-is_barred.ensures c.args.value some).1 b in cc) (simp to_z-of_z at c.in-Err.ensures) (simp to_z-of_z at below.writes, simp to_z-of_z at below.puts) in
-    record { writes = done.writes; goes = done.goes; refused = done.refused }
+    let done = written_nonzero g.S.Store.means g.S.Store.puts h (record { below = c.write-in-Err.new.self; held = c.put.new.self }) c.args.cell c.args.value _ _ inside some (λ b. let no = (c.if-is_barred.ensures c.args.value some).1 b in cc) (simp to_z-of_z at c.in-Err.ensures.puts) (simp to_z-of_z at below.writes, simp to_z-of_z at below.puts) in
+    record { writes = done.writes; puts = done.goes; refused = done.refused }

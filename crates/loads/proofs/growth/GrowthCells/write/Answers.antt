@@ -19,7 +19,7 @@ first g c =
     let m = g.S.Store.means c.args.self.now.store.now in
     let s = c.args.self.now in
     elim c.match-self.branch [
-      | in-Some w ↦ rw w.self-is (first_tile m _ _ s.size _ c.args.self.now.whole s.comes _ _ _ w.in-Some.is (to_z-of_z w64 c.args.total c.ranges.total) w.put.ensures)
+      | in-Some w ↦ rw w.self-is (first_tile m _ _ s.size _ c.args.self.now.whole s.comes _ _ _ w.in-Some.is (to_z-of_z w64 c.args.total c.ranges.total) w.put.ensures.put)
       | in_default w ↦ first_none m _ _ s.size _ c.args.self.now.whole s.comes _ w.in_default.is (ap (λ x. g.S.Store.means x.1.0.now) w.self-is)
     ]
 
@@ -36,4 +36,4 @@ put-requires-2 g c =
 pub returns-clause-topped : goal.returns-clause-topped
 returns-clause-topped g c =
     let s = c.args.self.now in
-    topped _ _ _ _ _ _ c.args.total _ c.args.self.now.whole s.below s.over (to_z-of_z w64 c.args.total c.ranges.total) (first g ((goal.at.returns-clause-topped g c).Joined-self)) c.put-2.ensures
+    topped _ _ _ _ _ _ c.args.total _ c.args.self.now.whole s.below s.over (to_z-of_z w64 c.args.total c.ranges.total) (first g ((goal.at.returns-clause-topped g c).Joined-self)) c.put-2.ensures.put

@@ -11,3 +11,4 @@ pub mod Addition
 pub mod Keeps
 pub mod Opening
 pub mod Growing
+pub mod Beside

@@ -4,8 +4,7 @@
 --   Wrote      the store t is s after them
 --   Underway   a load that the store takes has written the touched cells below `from`
 --   WroteAll   it is s after all of them
---   Added      an accepted addition wrote them all; a refused one left the store as it was
---   AddedTo    the same of a warehouse, for a chunk with the values zs
+--   AddedTo    an accepted addition of a chunk with the values zs wrote them all; a refused one left the warehouse as it was
 use Rattle.std.specs.Prelude.{◌≡◌, ℕ, ◌<◌, List, ℤ, ◌+ℤ◌, Ok, Err, Result}
 use Rattle.std.specs.List.{All, Contains}
 use Rattle.haar.specs.declared.coefficient.Coefficient.{Coefficient}
@@ -42,10 +41,6 @@ Underway means puts T n m p g s t from =
 
 abbrev pub WroteAll : {S : Type 0} → (S → Meaning) → Putting S → ℕ → ℕ → ℕ → ℕ → (ℕ → ℤ) → S → S → Type 0
 WroteAll means puts T n m p g s t = Wrote puts T n m p g (means s).cells s t (cell_count T)
-
-abbrev pub Added : {S E : Type 0} → (S → Meaning) → Putting S → ℕ → ℕ → ℕ → ℕ → (ℕ → ℤ) → S → Result ℕ E → S → Type 0
-Added means puts T n m p g s (Ok _) t = WroteAll means puts T n m p g s t
-Added means puts T n m p g s (Err _) t = t ≡ s
 
 abbrev pub AddedTo : {S E : Type 0} → (S → Meaning) → Putting S → Warehouse S → ℕ → ℕ → List ℤ → Result ℕ E → Warehouse S → Type 0
 AddedTo means puts w m p zs (Ok _) w' =

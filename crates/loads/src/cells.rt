@@ -33,7 +33,7 @@ pub(crate) fn added(number: i64, share: i64) -> Option<i64>
 }
 
 // 1 if a cell goes from zero to nonzero
-pub(crate) fn starts(number: i64, new: i64) -> u32
+pub fn starts(number: i64, new: i64) -> u32
     ensures { result ≡ weight new - weight number }
 {
     u32::from(number == 0 && new != 0)

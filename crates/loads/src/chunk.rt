@@ -1,13 +1,11 @@
 // A chunk's load: its touched cells are checked, then written.
-ghost use Rattle.std.specs.Prelude.{◌≡◌, ℕ, ℤ, pos, ◌≤ℤ◌};
-ghost use Rattle.haar.specs.Load.{Loaded};
-ghost use Rattle.haar.specs.Tiles.{cell_count};
+ghost use Rattle.std.specs.Prelude.{◌≡◌, ℕ, ℤ};
 ghost use Rattle.loads.specs.Reach.{at_reach};
-ghost use Rattle.loads.specs.Loads.{Large, Clear, Checked, Stored, fresh};
+ghost use Rattle.loads.specs.Loads.{Large, Checked};
 ghost use Rattle.loads.specs.Passes.{Seen};
-ghost use Rattle.loads.specs.Adds.{Adds};
+ghost use Rattle.loads.specs.Adds.{Roomy, CellsPass, Took};
 ghost use Rattle.loads.specs.Skips.{seen_skip, underway_skip};
-ghost use Rattle.loads.specs.Writes.{Underway, WroteAll, Added};
+ghost use Rattle.loads.specs.Writes.{Underway, WroteAll};
 
 use crate::cells::{added, number_in, put, starts};
 use crate::share::ChunkTree;
@@ -71,7 +69,7 @@ impl<S: Store> Load<'_, '_, S> {
     ghost use Rattle.loads.specs.Tree.{minutes_of, at_chunk};
 
     // how many touched cells go from zero to nonzero, or the lowest whose new number is too large
-    fn check(&self) -> Result<u32, u32>
+    fn started(&self) -> Result<u32, u32>
         ensures { at_reach self.now.chunk.reach Checked (minutes_of self.now.chunk) (S.means self.now.store.now).cells result }
     {
         let mut checking = Checking {
@@ -82,32 +80,29 @@ impl<S: Store> Load<'_, '_, S> {
         Ok(checking.started)
     }
 
-    // Each method that lends its store on to be written says that the same loan comes back (`same_store`): no type can say it.
-    fn write(&mut self)
-        requires small { at_reach self.old.chunk.reach Clear (minutes_of self.old.chunk) (S.means self.old.store.now).cells (cell_count self.old.chunk.reach.bands) }
-        requires room { (y : ℕ → ℤ) → at_reach self.old.chunk.reach Loaded (minutes_of self.old.chunk) (S.means self.old.store.now).cells y → pos (fresh (S.means self.old.store.now).cells y (cell_count self.old.chunk.reach.bands)) ≤ℤ (S.means self.old.store.now).room }
+    // The checks of the cells, in their order.
+    pub(crate) fn check(&self) -> Result<(), Fault>
+        ensures { at_reach self.now.chunk.reach CellsPass (minutes_of self.now.chunk) (S.means self.now.store.now) result }
+    {
+        let started = self.started().map_err(Fault::Large)?;
+        if !self.store.fits(started) {
+            return Err(Fault::Full);
+        }
+        Ok(())
+    }
+
+    // What passed the checks is written: the count of cells written. A method that lends its store on to be written says that
+    // the same loan comes back (`same_store`): no type can say it.
+    pub(crate) fn write(&mut self) -> u32
+        requires { at_reach self.old.chunk.reach Roomy (minutes_of self.old.chunk) (S.means self.old.store.now) }
         ensures same_store { self.new.store.ghost_name ≡ self.old.store.ghost_name }
         ensures wrote { at_chunk self.old.chunk (WroteAll S.means S.puts) self.old.store.now self.new.store.now }
-        ensures stored { at_reach self.old.chunk.reach Stored (minutes_of self.old.chunk) (S.means self.old.store.now) (S.means self.new.store.now) }
+        ensures took { at_reach self.old.chunk.reach Took (minutes_of self.old.chunk) (S.means self.old.store.now) result (S.means self.new.store.now) }
     {
         let chunk = self.chunk;
         let mut writing = Writing { store: self.store };
         // no cell is refused, since each was checked
         let _ = walk(&mut writing, &chunk);
-    }
-
-    // The count of cells written, or why nothing was.
-    pub(crate) fn add(&mut self) -> Result<u32, Fault>
-        ensures same_store { self.new.store.ghost_name ≡ self.old.store.ghost_name }
-        ensures added { at_chunk self.old.chunk (Added S.means S.puts) self.old.store.now result self.new.store.now }
-        ensures adds { at_reach self.old.chunk.reach Adds (minutes_of self.old.chunk) (S.means self.old.store.now) result (S.means self.new.store.now) }
-    {
-        let reach = self.chunk.reach;
-        let started = self.check().map_err(Fault::Large)?;
-        if !self.store.fits(started) {
-            return Err(Fault::Full);
-        }
-        self.write();
-        Ok(cells_written(u32::from(reach.level), u32::from(reach.size)))
+        cells_written(u32::from(chunk.reach.level), u32::from(chunk.reach.size))
     }
 }

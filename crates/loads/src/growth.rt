@@ -3,8 +3,10 @@ ghost use Rattle.std.specs.Prelude.{◌≡◌, ℕ, ◌*◌, ◌<◌, ◌≤◌,
 ghost use Rattle.store.specs.Writing.{Written};
 ghost use Rattle.warehouse.specs.View.{known};
 ghost use Rattle.loads.specs.Growing.{total_cell, top_cell, tile_cell, lowest_written, fills, newly, total_writes};
-ghost use Rattle.loads.specs.Growing.{Topped, Grows, Growth, GrownTo};
+ghost use Rattle.loads.specs.Growing.{Topped, Growth, GrownTo};
+ghost use Rattle.loads.specs.Beside.{GrowsBeside, GrowthBeside};
 
+use crate::beside::{Alone, Beside};
 use crate::cells::{number_in, put, starts};
 use haar::cells::{difference_cell, sum_cell};
 use store::interface::Store;
@@ -90,16 +92,16 @@ impl<'a, S: Store> GrowthCells<'a, S> {
 }
 
 // The checks of a growth in their order, and its writing.
-fn raise<S: Store>(warehouse: &mut Warehouse<S>) -> Result<u8, Fault>
+fn raise<S: Store, B: Beside<S>>(warehouse: &mut Warehouse<S>, beside: &mut B) -> Result<u8, Fault>
     ensures whole { GrownTo S.means S.puts warehouse.old result warehouse.new }
-    ensures grows { Grows (known S.means warehouse.old) result (known S.means warehouse.new) }
+    ensures grows { GrowsBeside B.grows beside.old (known S.means warehouse.old) result beside.new (known S.means warehouse.new) }
 {
     let size = warehouse.size();
     let bands = warehouse.store.bands();
     if size >= 4 * bands {
         return Err(Fault::Top);
     }
-    let mut cells = GrowthCells::of(&mut warehouse.store, size);
+    let cells = GrowthCells::of(&mut warehouse.store, size);
     let total = cells.read_total();
     if !is_small(total) {
         return Err(Fault::Large(cells.lowest()));
@@ -108,6 +110,8 @@ fn raise<S: Store>(warehouse: &mut Warehouse<S>) -> Result<u8, Fault>
     if !cells.store.fits(more) {
         return Err(Fault::Full);
     }
+    beside.grow(warehouse)?;
+    let mut cells = GrowthCells::of(&mut warehouse.store, size);
     cells.write(total);
     warehouse.asked = size + 1;
     Ok(size + 1)
@@ -118,6 +122,17 @@ pub fn grow<S: Store>(warehouse: &mut Warehouse<S>) -> Result<u8, Refusal>
     ensures whole { GrownTo S.means S.puts warehouse.old result warehouse.new }
     ensures growth { Growth (known S.means warehouse.old) result (known S.means warehouse.new) }
 {
+    grow_beside(warehouse, &mut Alone)
+}
+
+// The same, where something besides has to be passed.
+pub fn grow_beside<S: Store, B: Beside<S>>(
+    warehouse: &mut Warehouse<S>,
+    beside: &mut B,
+) -> Result<u8, Refusal>
+    ensures whole { GrownTo S.means S.puts warehouse.old result warehouse.new }
+    ensures growth { GrowthBeside B.grows beside.old (known S.means warehouse.old) result beside.new (known S.means warehouse.new) }
+{
     let size = warehouse.size();
-    answered(raise(warehouse), Asked::Size(size))
+    answered(raise(warehouse, beside), Asked::Size(size))
 }

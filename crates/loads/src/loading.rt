@@ -3,8 +3,10 @@ ghost use Rattle.std.specs.Prelude.{◌≡◌, ℕ, ◌^◌, ◌<◌, ◌≤◌,
 ghost use Rattle.warehouse.specs.View.{known};
 ghost use Rattle.warehouse.specs.declared.fault.Fault.TheVariants.{Level, Domain};
 ghost use Rattle.loads.specs.Addition.{Lies};
-ghost use Rattle.loads.specs.Opening.{IsOpen, Returned, Begins, Takes, Finished, Finishes, FinishedTo};
+ghost use Rattle.loads.specs.Beside.{FinishedBeside, FinishesBeside};
+ghost use Rattle.loads.specs.Opening.{IsOpen, Returned, Begins, Takes, Finishes, FinishedTo};
 
+use crate::beside::{Alone, Beside};
 use crate::open::{OpenLoad, RefusedLoad};
 use crate::values::add_values;
 use store::interface::Store;
@@ -67,14 +69,15 @@ impl OpenLoad {
     }
 
     // The checks of a finish and its writing.
-    fn finished<S: Store>(
+    fn finished<S: Store, B: Beside<S>>(
         &self,
         warehouse: &mut Warehouse<S>,
+        beside: &mut B,
         buffer: &mut [i64],
     ) -> Result<u32, Fault>
         ensures restored { buffer.new ≡ buffer.old }
         ensures whole { FinishedTo S.means S.puts self.now warehouse.old buffer.old result warehouse.new }
-        ensures finished { Finished (known S.means warehouse.old) self.now.level self.now.index self.now.taken buffer.old result (known S.means warehouse.new) }
+        ensures finished { FinishedBeside B.adds beside.old (known S.means warehouse.old) self.now.level self.now.index self.now.taken buffer.old result beside.new (known S.means warehouse.new) }
     {
         let many = self.chunk_len();
         if (self.taken as usize) < many {
@@ -83,7 +86,13 @@ impl OpenLoad {
         if buffer.len() < many {
             return Err(Fault::Buffer);
         }
-        add_values(warehouse, self.level, self.index, &mut buffer[..many])
+        add_values(
+            warehouse,
+            beside,
+            self.level,
+            self.index,
+            &mut buffer[..many],
+        )
     }
 
     // Adds the chunk; the buffer holds what it held, also where the load comes back.
@@ -96,8 +105,22 @@ impl OpenLoad {
         ensures whole { FinishedTo S.means S.puts self warehouse.old buffer.old result warehouse.new }
         ensures finishes { Finishes self (known S.means warehouse.old) buffer.old result (known S.means warehouse.new) }
     {
+        self.finish_beside(warehouse, &mut Alone, buffer)
+    }
+
+    // The same, where something besides has to be passed.
+    pub fn finish_beside<S: Store, B: Beside<S>>(
+        self,
+        warehouse: &mut Warehouse<S>,
+        beside: &mut B,
+        buffer: &mut [i64],
+    ) -> Result<u32, RefusedLoad>
+        ensures restored { buffer.new ≡ buffer.old }
+        ensures whole { FinishedTo S.means S.puts self warehouse.old buffer.old result warehouse.new }
+        ensures finishes { FinishesBeside B.adds beside.old (known S.means warehouse.old) self buffer.old result beside.new (known S.means warehouse.new) }
+    {
         // by match: either arm uses up the load, and a closure of map_err would hold it in both
-        match self.finished(warehouse, buffer) {
+        match self.finished(warehouse, beside, buffer) {
             Ok(written) => {
                 let _ = self.give_up();
                 Ok(written)

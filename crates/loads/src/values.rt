@@ -1,9 +1,11 @@
 // Adding a chunk's values: the checks in their order, and the writing.
 ghost use Rattle.std.specs.Prelude.{◌≡◌, ℕ, ◌-◌, ◌*◌, ◌^◌, ◌<◌, ◌≤◌, true, false, length, pos, MatchOption, slice_index_or};
 ghost use Rattle.warehouse.specs.View.{known};
-ghost use Rattle.loads.specs.Addition.{Limit, Limited, Additions};
+ghost use Rattle.loads.specs.Addition.{Limit, Limited};
 ghost use Rattle.loads.specs.Writes.{AddedTo};
+ghost use Rattle.loads.specs.Beside.{AddsBeside};
 
+use crate::beside::Beside;
 use crate::chunk::Load;
 use crate::reach::Reach;
 use crate::transform::Transformed;
@@ -24,8 +26,9 @@ fn first_outside(values: &[i64]) -> Option<u32>
 }
 
 // Level and index stay apart, since there is no `Reach` yet: `finished` takes them out of its open load, and only `add_point` would make a struct.
-pub(crate) fn add_values<S: Store>(
+pub(crate) fn add_values<S: Store, B: Beside<S>>(
     warehouse: &mut Warehouse<S>,
+    beside: &mut B,
     level: u8,
     index: u32,
     values: &mut [i64],
@@ -34,7 +37,7 @@ pub(crate) fn add_values<S: Store>(
     requires many { length values.old ≡ 2 ^ level }
     ensures restored { values.new ≡ values.old }
     ensures added { AddedTo S.means S.puts warehouse.old level index values.old result warehouse.new }
-    ensures adds { Additions (known S.means warehouse.old) level index values.old result (known S.means warehouse.new) }
+    ensures adds { AddsBeside B.adds beside.old (known S.means warehouse.old) level index values.old result beside.new (known S.means warehouse.new) }
 {
     if !warehouse.has(level, index) {
         return Err(Fault::Domain);
@@ -53,9 +56,15 @@ pub(crate) fn add_values<S: Store>(
         index,
     };
     let guard = Transformed::of(values, reach);
+    let load = Load {
+        store: &mut warehouse.store,
+        chunk: guard.tree(),
+    };
+    load.check()?;
+    beside.add(warehouse, &guard.tree())?;
     let mut load = Load {
         store: &mut warehouse.store,
         chunk: guard.tree(),
     };
-    load.add()
+    Ok(load.write())
 }

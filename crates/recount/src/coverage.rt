@@ -1,6 +1,7 @@
 // Many random feeds recounted, and how often each refusal came in them.
 use crate::draft::Draft;
 use crate::feeds::draw_feed;
+use crate::handover::HandOver;
 use crate::lines::{Difference, Expectation};
 use crate::recounting::{Recounted, recount};
 use compare::comparison::Comparison;
@@ -17,6 +18,10 @@ pub(crate) struct Coverage {
     pub(crate) first: Option<(u32, Difference)>,
     // feeds after which the two warehouses share every cell, and nothing was refused in the flat store
     pub(crate) alike: u64,
+    // feeds after which audits accept both stores, which share every cell when they go on
+    pub(crate) handed_over: u64,
+    // those in which there was room for one more load
+    pub(crate) loaded: u64,
     // by the refusal's number
     refusals: [u64; 32],
 }
@@ -28,6 +33,8 @@ impl Coverage {
             differ: 0,
             first: None,
             alike: 0,
+            handed_over: 0,
+            loaded: 0,
             refusals: [0; 32],
         }
     }
@@ -51,6 +58,13 @@ impl Coverage {
         }
     }
 
+    fn note_hand_over(&mut self, handed_over: HandOver) {
+        if handed_over.found == Comparison::Alike {
+            self.handed_over = self.handed_over.saturating_add(1);
+            self.loaded = self.loaded.saturating_add(u64::from(handed_over.loaded));
+        }
+    }
+
     fn note(&mut self, feed: u32, recounted: Recounted) {
         self.note_lines(&recounted.expected);
         let Recounted { texts, twice, .. } = recounted;
@@ -61,6 +75,9 @@ impl Coverage {
         }
         if twice.found == Comparison::Alike && twice.refused == 0 {
             self.alike = self.alike.saturating_add(1);
+        }
+        if let Some(handed_over) = twice.handed_over {
+            self.note_hand_over(handed_over);
         }
     }
 }

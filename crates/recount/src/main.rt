@@ -8,6 +8,7 @@ mod coverage;
 mod draft;
 mod expected;
 mod feeds;
+mod handover;
 mod lines;
 mod load;
 mod model;
@@ -19,6 +20,7 @@ mod tests;
 mod twice;
 
 use coverage::{Coverage, cover};
+use handover::HandOver;
 use lines::Difference;
 use recounting::{Recounted, recount};
 use std::io::Read;
@@ -30,6 +32,19 @@ fn report_difference(rt: &HostRuntime, first: &Difference) -> anyhow::Result<()>
         "the first is that of offset {}: \"{}\" expected, \"{}\" printed",
         first.offset, first.expected, first.printed
     )?;
+    Ok(())
+}
+
+fn report_hand_over(rt: &HostRuntime, handed_over: Option<HandOver>) -> anyhow::Result<()> {
+    let Some(HandOver { loaded, found }) = handed_over else {
+        println!(rt; "an audit of their stores said no")?;
+        return Ok(());
+    };
+    println!(rt; "audits accept both stores, which are taken over again")?;
+    if !loaded {
+        println!(rt; "one more load was refused")?;
+    }
+    println!(rt; "after one more load {found}")?;
     Ok(())
 }
 
@@ -55,7 +70,7 @@ fn report(rt: &HostRuntime, recounted: &Recounted) -> anyhow::Result<()> {
         )?;
     }
     println!(rt; "{}", twice.found)?;
-    Ok(())
+    report_hand_over(rt, twice.handed_over)
 }
 
 fn report_random(rt: &HostRuntime, coverage: &Coverage) -> anyhow::Result<()> {
@@ -70,6 +85,10 @@ fn report_random(rt: &HostRuntime, coverage: &Coverage) -> anyhow::Result<()> {
     println!(rt;
         "after {} of them the two warehouses share every cell",
         coverage.alike
+    )?;
+    println!(rt;
+        "after {} audits accept both stores; taken over, with one more load in {}, they share every cell",
+        coverage.handed_over, coverage.loaded
     )?;
     for number in refusals::ALL {
         println!(rt; "refusal {number}: {} times", coverage.of(number))?;

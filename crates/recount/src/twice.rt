@@ -1,4 +1,5 @@
 // A feed played into the pile that gymfeed uses, and what was accepted of it, as points, into a flat store.
+use crate::handover::{HandOver, hand_over};
 use crate::plain::Deed;
 use compare::comparing::compare;
 use compare::comparison::Comparison;
@@ -23,6 +24,8 @@ pub(crate) struct Twice {
     // points and growths that the flat store refused
     pub(crate) refused: u64,
     pub(crate) found: Comparison,
+    // none if an audit said no
+    pub(crate) handed_over: Option<HandOver>,
 }
 
 // The whole feed, command by command: how many there are.
@@ -84,5 +87,6 @@ pub(crate) fn play_twice(
         points: count_points(deeds),
         refused: repeat_all(&mut fresh, deeds),
         found: compare(&kept, &fresh),
+        handed_over: hand_over(kept, fresh, buffer),
     })
 }

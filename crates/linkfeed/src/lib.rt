@@ -1,0 +1,5 @@
+//! A link to the motor board as the source of a feed: what a Feeding link hands on, until it hands on none.
+#![tactic(auto)]
+
+pub mod source;
+pub mod stopping;

@@ -1,5 +1,5 @@
 -- What is handed on grows by a byte, and ends at a none; and a line that gives none has a piece.
-use Rattle.std.proofs.Common.{◌≡◌, ℕ, zero, suc, ◌+◌, ◌<◌, ◌≤◌, ◌⊎◌, inl, inr, List, [], length, set, Option, Some, None, refl, sym, ◌∙◌, ap, subst, arith, Bool, true, false, take, ◌∷◌, ◌++◌, ◌-◌, length-set, length-append, length-take-le}
+use Rattle.std.proofs.Common.{◌≡◌, ℕ, zero, suc, ◌+◌, ◌<◌, ◌≤◌, List, [], length, set, Option, Some, None, refl, sym, ◌∙◌, ap, subst, arith, Bool, true, false, take, ◌∷◌, ◌++◌, ◌-◌, length-set}
 use Rattle.std.specs.Prelude.{slice_get}
 use Rattle.std.proofs.lemmas.Grind.{common_steps}
 use Rattle.std.proofs.lemmas.Option.{gets}
@@ -59,6 +59,10 @@ piece_until (suc n) gives (Some b) here none =
 has_piece : (gives : ℕ → Option ℕ) → Stops gives → (bytes : List ℕ) × Piece gives bytes
 has_piece gives (n, none) = piece_until n gives (gives 0) refl none
 
+pub still_some : (over : Bool) (gives : ℕ → Option ℕ) → Stops gives → (bytes : List ℕ) × StillGives over gives bytes
+still_some true gives stops = ([], refl)
+still_some false gives stops = has_piece gives stops
+
 module _ (m : Meaning) (buffer : List ℕ) (many : ℕ) where
   -- what was handed on came before what is still to come
   then_still : (none : Bool) (m' : Meaning) (buffer' : List ℕ) → HandsOn m buffer many none m' buffer' → (rest : List ℕ) → StillGives none m'.comes rest → Piece m.comes (take many buffer' ++ rest)
@@ -66,10 +70,6 @@ module _ (m : Meaning) (buffer : List ℕ) (many : ℕ) where
       grind (arith, common_steps, gets, handed.came k, none, over, handed.within, handed.long, few)
   then_still false m' buffer' (handed, full) rest piece k few =
       grind (arith, common_steps, gets, handed.came k, full, handed.long, few, piece (k - many), handed.moved.onward (k - many))
-
-  still_some : (none : Bool) (m' : Meaning) → Stops m'.comes → (rest : List ℕ) × StillGives none m'.comes rest
-  still_some true m' stops = ([], refl)
-  still_some false m' stops = has_piece m'.comes stops
 
   some_room : (none : Bool) (m' : Meaning) (buffer' : List ℕ) → HandsOn m buffer many none m' buffer' → many ≤ length buffer'
   some_room true m' buffer' (handed, none) = omega (arith, handed.within, handed.long)
@@ -83,6 +83,6 @@ module _ (m : Meaning) (buffer : List ℕ) (many : ℕ) where
   gave over none m' buffer' still hands stops = subst (λ over. Gave (StillGives over m.comes) (StillGives none m'.comes) buffer' many) (sym still) record {
     within = some_room none m' buffer' hands;
     before = then_still none m' buffer' hands;
-    some = still_some none m' stops;
+    some = still_some none m'.comes stops;
     ended = still_none none m' buffer' hands;
   }

@@ -1,3 +1,4 @@
+pub mod Feeding
 pub mod Piece
 pub mod Waiting
 pub mod Handing

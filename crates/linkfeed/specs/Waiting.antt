@@ -1,5 +1,5 @@
 -- A line that has bytes waiting gives none behind them.
-use Rattle.std.specs.Prelude.{◌≡◌, None, length}
+use Rattle.std.specs.Prelude.{length}
 use Rattle.std.proofs.Common.{arith}
 use Rattle.std.proofs.lemmas.Option.{slice_get_past}
 use Rattle.link.specs.Meaning.{Waiting, meaning_of}

@@ -1,4 +1,3 @@
-use Rattle.std.proofs.Common.{rules}
 use Rattle.linkfeed.proofs.Pieces.{gave}
 use Rattle.linkfeed.proofs.source.LinkSourceSource.read.Goals as goal
 

@@ -19,13 +19,16 @@ module _ (m : Meaning) (buffer : List ℕ) (n : ℕ) (now : Meaning) (buffer' : 
   came_here = ap m.comes (omega arith) ∙ sym (handed.moved.onward 0)
 
   pub none_here : now.comes 0 ≡ None → Handed m buffer n (suc n) after buffer' × (m.comes n ≡ None)
-  none_here none = (record {
-    within = handed.within;
-    long = handed.long;
-    came = handed.came;
-    kept = handed.kept;
-    moved = moved_on n m now after handed.moved polled;
-  }, came_here ∙ none)
+  none_here none = (
+    record {
+      within = handed.within;
+      long = handed.long;
+      came = handed.came;
+      kept = handed.kept;
+      moved = moved_on n m now after handed.moved polled;
+    },
+    came_here ∙ none,
+  )
 
   came_by : (byte : ℕ) → n < length buffer → now.comes 0 ≡ Some byte → (k : ℕ) → k < suc n → m.comes k ≡ slice_get (set buffer' n byte) k
   came_by byte room here k below = grind (arith, common_steps, gets, handed.came k, handed.long, came_here, here)

@@ -1,4 +1,5 @@
 pub mod Feeding
 pub mod Piece
+pub mod Session
 pub mod Waiting
 pub mod Handing

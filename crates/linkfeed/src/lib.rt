@@ -2,5 +2,6 @@
 #![tactic(auto)]
 
 pub mod feeding;
+pub mod session;
 pub mod source;
 pub mod stopping;

@@ -1,8 +1,7 @@
 -- What a session shows, on the pile of the rules.
 --   no_values       what the buffer holds at first
 --   session_text    each state of the link and each line of the feed, for a line that has captured some bytes
-use Rattle.std.specs.Prelude.{List, ℕ, ℤ, pos}
-use Rattle.std.specs.List.{replicate}
+use Rattle.std.specs.Prelude.{List, ℕ, ℤ, pos, replicate}
 use Rattle.linkfeed.specs.Session.{greeted, whole}
 
 abbrev pub no_values : List ℤ

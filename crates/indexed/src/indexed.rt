@@ -5,6 +5,8 @@ ghost use Rattle.loads.specs.Opening.{FinishedTo};
 ghost use Rattle.loads.specs.Writes.{AddedTo};
 ghost use Rattle.agreement.specs.Call.{load, add, grow, settle, settled};
 ghost use Rattle.agreement.specs.Reply.{finish_reply, written_reply, growth_reply};
+ghost use Rattle.agreement.specs.Share.{chunk_values};
+ghost use Rattle.indexed.specs.Full.{IndexLoaded, IndexGrown};
 ghost use Rattle.indexed.specs.Known.{known};
 ghost use Rattle.indexed.specs.Step.{plain, Step};
 
@@ -34,6 +36,7 @@ impl<S: Store, I: Store> Indexed<S, I> {
     pub fn finish(&mut self, opened: OpenLoad, buffer: &mut [i64]) -> Result<u32, RefusedLoad>
         ensures restored { buffer.new ≡ buffer.old }
         ensures whole { FinishedTo S.means S.puts opened self.old.first buffer.old result self.new.first }
+        ensures index { IndexLoaded S.means I.puts self.old opened.level opened.index (chunk_values opened.level buffer.old) result self.new }
         ensures handed_back { IfErr result (λ e. e.load ≡ opened) }
         ensures step { Step (known S.means I.means self.old) (plain (load opened.level opened.index opened.taken buffer.old)) (finish_reply result) (known S.means I.means self.new) }
     {
@@ -43,6 +46,7 @@ impl<S: Store, I: Store> Indexed<S, I> {
     // Adds to one minute.
     pub fn add_point(&mut self, minute: u32, value: i64) -> Result<u32, Refusal>
         ensures added { AddedTo S.means S.puts self.old.first 0 minute (value ∷ []) result self.new.first }
+        ensures index { IndexLoaded S.means I.puts self.old 0 minute (value ∷ []) result self.new }
         ensures step { Step (known S.means I.means self.old) (plain (add minute value)) (written_reply result) (known S.means I.means self.new) }
     {
         add_point_beside(&mut self.first, &mut self.index, minute, value)
@@ -51,6 +55,7 @@ impl<S: Store, I: Store> Indexed<S, I> {
     // One level more.
     pub fn grow(&mut self) -> Result<u8, Refusal>
         ensures whole { GrownTo S.means S.puts self.old.first result self.new.first }
+        ensures index { IndexGrown S.means I.puts self.old result self.new }
         ensures step { Step (known S.means I.means self.old) (plain grow) (growth_reply result) (known S.means I.means self.new) }
     {
         grow_beside(&mut self.first, &mut self.index)

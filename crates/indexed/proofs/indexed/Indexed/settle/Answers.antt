@@ -5,4 +5,4 @@ use Rattle.indexed.proofs.indexed.Indexed.settle.Goals as goal
 pub returns-clause-step : goal.returns-clause-step
 returns-clause-step g c =
     let s = c.settle.ensures in
-    settle_step (λ b. g.I.Store.means b) _ _ _ _ (ap₂ (λ a T. min a (4 * T)) s.size s.settles.same.bands) s.settles c.settle-2.ensures.settles
+    settle_step (λ b. b) g.I.Store.means g.I.Store.puts _ _ _ _ (ap₂ (λ a T. min a (4 * T)) s.size s.settles.same.bands) s.settles c.settle-2.ensures.settles

@@ -6,3 +6,5 @@ pub mod Sums
 pub mod Faithful
 pub mod Splits
 pub mod Halving
+pub mod Spread
+pub mod Sixteen

@@ -8,3 +8,4 @@ pub mod Faithful
 pub mod Laws
 pub mod Grading
 pub mod Words
+pub mod Tile

@@ -10,6 +10,7 @@ mod range;
 mod read;
 pub mod reading;
 pub mod record;
+pub mod tile;
 mod tree;
 pub mod trend;
 pub mod warehouse;

@@ -8,7 +8,7 @@ pub returns : goal.returns
 unfolding lower
 returns g c =
     let m = g.S.Store.means c.args.self.now.store.now in
-    let e = cell_beside m.bands _ _ c.args.index _ _ c.bands.ensures.is c.requires.tree c.difference_cell.ensures c.unwrap-cell.ensures in
+    let e = cell_beside m.bands _ _ c.args.index _ _ c.bands.ensures.is (record { few = c.bands.ensures.lawful.few; low = c.requires.tree.0; inside = c.requires.tree.1 }) c.difference_cell.ensures c.unwrap-cell.ensures in
     let f : SFits w64 c.in_ok-difference.difference = search rules in
     c.halved.ensures ∙ ap₂ (halve c.unwrap-cell.result c.args.index) (to_z-of_z w64 c.args.above c.ranges.above) (to_z-of_z w64 c.in_ok-difference.difference f)
     ∙ ap (λ r. ◌then◌ r (halve c.unwrap-cell.result c.args.index c.args.above)) (sym c.in_ok-difference.was ∙ c.seen.ensures)

@@ -36,8 +36,9 @@ lowered-requires g c =
     let r = c.reading_start.ensures.is in
     let k = c.loop-below.auto.below in
     let t = c.loop-below-test.true in
+    let over = tree_over m.bands c.args.self.now.size c.args.level c.args.index c.bands.ensures.lawful.few c.requires.0 c.args.self.now.fits c.requires.1 (c.loop-below.below - 1) (omega arith) in
     record {
-      tree = tree_over m.bands c.args.self.now.size c.args.level c.args.index c.bands.ensures.lawful.few c.requires.0 c.args.self.now.fits c.requires.1 (c.loop-below.below - 1) (omega arith);
+      tree = (over.low, over.inside);
       small = way_small m.bands c.args.self.now.size (look m) c.args.level c.args.index c.loop-below.below _ c.loop-below.invariant;
     }
 

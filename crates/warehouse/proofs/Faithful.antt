@@ -15,7 +15,8 @@ use Rattle.warehouse.specs.Ask.{counted, piece, range_reading, sum_reading, aver
 use Rattle.warehouse.specs.Faithful.{Holds, ReadsBack, WithoutBands}
 use Rattle.warehouse.specs.Faults.{refused}
 use Rattle.warehouse.specs.Grading.{inside, graded, graded_at, trend_answer}
-use Rattle.warehouse.specs.Read.{◌then◌, look, sight, descend, read, cells_read, range_cells, floor}
+use Rattle.warehouse.specs.Mean.{mean_of}
+use Rattle.warehouse.specs.Read.{◌then◌, look, sight, descend, read, cells_read, range_cells}
 use Rattle.warehouse.specs.View.{View}
 use Rattle.warehouse.proofs.Sums.{reads_point, reads_range}
 
@@ -37,7 +38,7 @@ module _ (v : View) (f : ℕ → ℤ) (h : Holds v f) where
   unfolding sum_answer
   sum_back a b l k = ap (refused (Minutes a b)) (sum_read a b l k)
 
-  mean_back : (a b : ℕ) → a < b → b ≤ 2 ^ v.size → mean_answer v a b ≡ Ok (record { value = floor (plain_sum f a (b - a)) (b - a); cells = range_cells v.size a b })
+  mean_back : (a b : ℕ) → a < b → b ≤ 2 ^ v.size → mean_answer v a b ≡ Ok (record { value = mean_of (plain_sum f a (b - a)) (b - a); cells = range_cells v.size a b })
   unfolding mean_answer
   mean_back a b l k =
       ap (refused (Minutes a b))

@@ -13,7 +13,8 @@ use Rattle.warehouse.specs.declared.fault.Fault.TheVariants.{Range, Domain}
 use Rattle.warehouse.specs.declared.fault.Refusal.{Refusal}
 use Rattle.warehouse.specs.declared.reading.Reading.{Reading}
 pub use Rattle.warehouse.specs.Faults.{refused}
-use Rattle.warehouse.specs.Read.{◌then◌, look, read, cells_read, read_range, range_cells, floor}
+use Rattle.warehouse.specs.Mean.{mean_of}
+use Rattle.warehouse.specs.Read.{◌then◌, look, read, cells_read, read_range, range_cells}
 use Rattle.warehouse.specs.View.{View}
 
 abbrev pub counted : ℕ → ℤ → Result Reading Fault
@@ -44,7 +45,7 @@ sum_reading v a b = cond (nat_lt b a) (Err Range) (cond (nat_lt (2 ^ v.size) b) 
 
 -- a sum of d minutes as their mean
 abbrev pub averaged : ℕ → Reading → Result Reading Fault
-averaged d r = counted r.cells (floor r.value d)
+averaged d r = counted r.cells (mean_of r.value d)
 
 -- Range where there is no minute, then as the sum
 abbrev pub mean_reading : View → ℕ → ℕ → Result Reading Fault

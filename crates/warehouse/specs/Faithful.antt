@@ -14,7 +14,8 @@ use Rattle.warehouse.specs.declared.fault.Asked.TheVariants.{Interval, Minute}
 use Rattle.warehouse.specs.declared.fault.Fault.TheVariants.{Cell, Fine}
 use Rattle.warehouse.specs.Ask.{point_answer, sum_answer, mean_answer}
 use Rattle.warehouse.specs.Grading.{trend_answer}
-use Rattle.warehouse.specs.Read.{limit, cells_read, range_cells, floor}
+use Rattle.warehouse.specs.Mean.{mean_of}
+use Rattle.warehouse.specs.Read.{limit, cells_read, range_cells}
 use Rattle.warehouse.specs.View.{View, view}
 
 pub record Holds (v : View) (f : ℕ → ℤ) : Type 0 where
@@ -28,7 +29,7 @@ ReadsBack =
     (v : View) (f : ℕ → ℤ) → Holds v f
     → ((i : ℕ) → i < 2 ^ v.size → point_answer v i ≡ Ok (record { value = f i; cells = cells_read v.size 0 }))
     × ((a b : ℕ) → a ≤ b → b ≤ 2 ^ v.size → sum_answer v a b ≡ Ok (record { value = plain_sum f a (b - a); cells = range_cells v.size a b }))
-    × ((a b : ℕ) → a < b → b ≤ 2 ^ v.size → mean_answer v a b ≡ Ok (record { value = floor (plain_sum f a (b - a)) (b - a); cells = range_cells v.size a b }))
+    × ((a b : ℕ) → a < b → b ≤ 2 ^ v.size → mean_answer v a b ≡ Ok (record { value = mean_of (plain_sum f a (b - a)) (b - a); cells = range_cells v.size a b }))
     × ((j k : ℕ) → j ≤ 20 → Inside v.size (Difference j k)
     → (unsigned_abs (D f j k) ≤ 2 ^ 53 → trend_answer v j k ≡ Ok (trend_of j (D f j k)))
     × (2 ^ 53 < unsigned_abs (D f j k) → trend_answer v j k ≡ Err (record { fault = Fine (cell_number v.store.bands (Difference j k)); asked = Interval j k })))

@@ -3,14 +3,15 @@
 --   SplitGreedy      a range is split so
 --   SplitFew         into at most 42 intervals
 --   HalvedExactly    twice a half is the sum with its difference, or without it; Torn where there is no such half
---   RoundedDown      the floor is the greatest integer not over the quotient
+--   RoundedDown      the mean is the greatest integer not over the quotient
 --   ExactAmounts     the amount of a trend is exact: a finite float with the sign plus, the size divided by 2^(j-1)
 use Rattle.std.specs.Prelude.{◌≡◌, ℕ, ◌+◌, ◌-◌, ◌*◌, ◌%◌, ◌^◌, ◌≤◌, false, List, [], ◌∷◌, length, ℤ, pos, ◌+ℤ◌, ◌-ℤ◌, ◌*ℤ◌, ◌≤ℤ◌, ◌<ℤ◌, Ok, Err, ◌≢◌}
 use lib.Ieee.Exact.{HasValue}
 use Rattle.haar.specs.Trend.{amount}
 use Rattle.warehouse.specs.declared.fault.Fault.{Fault}
 use Rattle.warehouse.specs.declared.fault.Fault.TheVariants.{Torn}
-use Rattle.warehouse.specs.Read.{halve, Interval, interval, pieces, floor}
+use Rattle.warehouse.specs.Mean.{mean_of}
+use Rattle.warehouse.specs.Read.{halve, Interval, interval, pieces}
 
 -- an interval of level j starts at a and ends by b
 pub record Starts (j a b : ℕ) : Type 0 where
@@ -34,7 +35,7 @@ HalvedExactly =
     × ((f : Fault) → halve c k s d ≡ Err f → (f ≡ Torn c) × ((x : ℤ) → x +ℤ x ≢ s +ℤ d))
 
 abbrev pub RoundedDown : Type 0
-RoundedDown = (z : ℤ) (d : ℕ) → 1 ≤ d → ((pos d *ℤ floor z d) ≤ℤ z) × (z <ℤ (pos d *ℤ floor z d +ℤ pos d))
+RoundedDown = (z : ℤ) (d : ℕ) → 1 ≤ d → ((pos d *ℤ mean_of z d) ≤ℤ z) × (z <ℤ (pos d *ℤ mean_of z d +ℤ pos d))
 
 abbrev pub ExactAmounts : Type 0
 ExactAmounts = (n j : ℕ) → n ≤ 2 ^ 53 → 1 ≤ j → j ≤ 20 → HasValue (amount j n) false n (2 ^ (j - 1))

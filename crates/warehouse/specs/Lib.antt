@@ -2,6 +2,7 @@ pub mod View
 pub mod Faults
 pub mod Founding
 pub mod Read
+pub mod Mean
 pub mod Ask
 pub mod Tree
 pub mod Faithful

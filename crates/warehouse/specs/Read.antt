@@ -10,7 +10,6 @@
 --   pieces n a b             the minutes from a to b - 1 as such intervals
 --   read_range T n look a b  their sum
 --   range_cells n a b        how many cells that takes
---   floor z d                z divided by d, rounded toward minus infinity
 use Rattle.std.specs.Prelude.{ℕ, zero, suc, ◌+◌, ◌-◌, ◌*◌, ◌/◌, ◌%◌, ◌^◌, min, Bool, cond, ◌&&◌, List, [], ◌∷◌, ℤ, pos, negsuc, ◌+ℤ◌, ◌-ℤ◌, Ok, Err, Result, ◌==◌, nat_le, nat_lt, unsigned_abs}
 use Rattle.haar.specs.declared.coefficient.Coefficient.TheVariants.{TileSum, Difference}
 use Rattle.haar.specs.Tiles.{cell_number, cell_count}
@@ -113,8 +112,3 @@ read_range T n look a b = read_all T n look (pieces n a b)
 
 abbrev pub range_cells : ℕ → ℕ → ℕ → ℕ
 range_cells n a b = all_cells n (pieces n a b)
-
--- the greatest integer not over z / d
-abbrev pub floor : ℤ → ℕ → ℤ
-floor (pos s) d = pos (s / d)
-floor (negsuc s) d = negsuc (s / d)

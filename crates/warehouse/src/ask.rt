@@ -4,6 +4,7 @@ ghost use Rattle.warehouse.specs.Ask.{point_reading, sum_reading, mean_reading, 
 ghost use Rattle.warehouse.specs.View.{known};
 
 use crate::fault::{Asked, Fault, Refusal};
+use crate::mean::mean_of;
 use crate::numbers::answered;
 use crate::reading::Reading;
 use crate::record::Warehouse;
@@ -25,7 +26,7 @@ impl<S: Store> Warehouse<S> {
         answered(self.sum_reading(from, to), Asked::Minutes(from, to))
     }
 
-    // The mean of the minutes from `from` to `to - 1`, rounded toward minus infinity.
+    // The mean of the minutes from `from` to `to - 1`, rounded.
     pub fn mean(&self, from: u32, to: u32) -> Result<Reading, Refusal>
         ensures { result ≡ mean_answer (known S.means self.now) from to }
     {
@@ -63,7 +64,7 @@ impl<S: Store> Warehouse<S> {
         }
         let sum = self.sum_reading(from, to)?;
         Ok(Reading {
-            value: sum.value.div_euclid(i64::from(to - from)),
+            value: mean_of(sum.value, to - from),
             ..sum
         })
     }

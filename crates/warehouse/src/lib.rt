@@ -5,6 +5,7 @@ pub mod ask;
 pub mod fault;
 pub mod founding;
 pub mod laws;
+mod mean;
 pub mod numbers;
 mod range;
 mod read;

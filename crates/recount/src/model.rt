@@ -80,3 +80,16 @@ impl Model {
         Ok(size)
     }
 }
+
+// The whole number nearest to the sum's share of so many minutes; the even one, where two are as near.
+pub(crate) fn nearest(sum: i64, minutes: u32) -> i64 {
+    let twice = 2 * i64::from(minutes.max(1));
+    // half a share more: the upper one, where two are as near
+    let more = sum.wrapping_mul(2).wrapping_add(twice / 2);
+    let upper = more.div_euclid(twice);
+    let two = more.rem_euclid(twice) == 0;
+    if two && upper % 2 != 0 {
+        return upper.wrapping_sub(1);
+    }
+    upper
+}

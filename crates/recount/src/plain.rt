@@ -1,7 +1,7 @@
 // What a command does to plain minutes, and the line that it should print.
 use crate::counts::{cells_read, cells_read_between, cells_written};
 use crate::load::Load;
-use crate::model::Model;
+use crate::model::{Model, nearest};
 use crate::refusals::{DOMAIN, Fault, RANGE, SEQUENCE};
 use std::alloc::{AllocError, Global};
 use wire::command::Command;
@@ -155,7 +155,7 @@ impl Plain {
         }
         self.check_range(from, to)?;
         Ok(Line::Mean {
-            mean: self.model.sum(from, to).div_euclid(i64::from(to - from)),
+            mean: nearest(self.model.sum(from, to), to - from),
             cells: cells_read_between(from, to, self.model.size),
         })
     }

@@ -1,6 +1,7 @@
-// What no feed of a bearable length reaches, the limit of a cell; and that lines which differ are seen.
+// What no feed of a bearable length reaches, the limit of a cell; the mean's rounding; and that lines which differ are seen.
 use crate::coefficients::{LIMIT, check_change};
 use crate::lines::{Expectation, compare_texts};
+use crate::model::nearest;
 use crate::refusals::{Fault, LARGE};
 use std::test::Fail;
 use wire::line::Line;
@@ -49,4 +50,21 @@ fn a_line_that_is_missing_is_seen(rt: HostRuntime) -> Result<(), Fail> {
     let texts = compare_texts(rt.alloc(), &[begun], b"", 6)?;
     assert_eq!(rt; texts.differ, 1);
     Ok(())
+}
+
+#[test]
+fn half_goes_to_the_even_neighbour(rt: HostRuntime) {
+    for (sum, minutes, mean) in [
+        (3i64, 2u32, 2i64),
+        (5, 2, 2),
+        (-1, 2, 0),
+        (-3, 2, -2),
+        (5, 3, 2),
+        (4, 3, 1),
+        (-4, 3, -1),
+        (-5, 3, -2),
+        (7, 1, 7),
+    ] {
+        assert_eq!(rt; nearest(sum, minutes), mean);
+    }
 }

@@ -5,6 +5,7 @@ pub mod Progress
 pub mod Sums
 pub mod Faithful
 pub mod Splits
+pub mod Means
 pub mod Halving
 pub mod Spread
 pub mod Sixteen

@@ -1,12 +1,11 @@
--- The laws of splitting, halving and rounding.
-use Rattle.std.proofs.Common.{◌≡◌, ℕ, zero, suc, ◌+◌, ◌-◌, ◌*◌, ◌/◌, ◌%◌, ◌^◌, ◌<◌, ◌≤◌, Bool, true, false, cond, eqb, length, ℤ, pos, negsuc, ◌+ℤ◌, ◌-ℤ◌, nat_abs, Ok, Err, sym, refl, ap, ◌∙◌, subst, inl, ⊎_elim, mul-suc, arith, pow_pos}
+-- The laws of splitting and halving.
+use Rattle.std.proofs.Common.{◌≡◌, ℕ, zero, suc, ◌+◌, ◌-◌, ◌*◌, ◌/◌, ◌%◌, ◌^◌, ◌<◌, ◌≤◌, Bool, true, false, cond, eqb, length, ℤ, pos, negsuc, ◌+ℤ◌, ◌-ℤ◌, nat_abs, Ok, Err, sym, refl, ap, ◌∙◌, subst, inl, ⊎_elim, arith, pow_pos}
 use lib.Pow.{split as divided}
-use Rattle.std.proofs.lemmas.Nat.{div-add-mod', mod_below}
 use Rattle.std.proofs.lemmas.Int.{ints}
 use Rattle.std.proofs.lemmas.Bool.{cases_lt, eqb-true, eqb-false, eq-eqb, ne_eqb, cond-true, cond-false}
 use Rattle.warehouse.specs.declared.fault.Fault.{Fault}
 use Rattle.warehouse.specs.declared.fault.Fault.TheVariants.{Torn}
-use Rattle.warehouse.specs.Laws.{Greedy, SplitGreedy, SplitFew, HalvedExactly, RoundedDown}
+use Rattle.warehouse.specs.Laws.{Greedy, SplitGreedy, SplitFew, HalvedExactly}
 use Rattle.warehouse.specs.Read.{half, halve, longest, pieces}
 use Rattle.warehouse.proofs.Pieces.{longest_is, pieces_more, pieces_none, Stage, stage_few, stage_more}
 use Rattle.warehouse.proofs.Sums.{double_even}
@@ -70,7 +69,3 @@ module _ (c k : ℕ) (s d : ℤ) where
 
 pub halved_exactly : HalvedExactly
 halved_exactly c k s d = (twice_half c k s d, no_half c k s d)
-
-pub rounded_down : RoundedDown
-rounded_down (pos s) d h = let q = div-add-mod' s d in let r = mod_below s d h in (omega (arith, ints), omega (arith, ints))
-rounded_down (negsuc s) d h = let q = div-add-mod' s d in let r = mod_below s d h in let m = mul-suc d (s / d) in (omega (arith, ints), omega (arith, ints))

@@ -3,14 +3,14 @@
 --   SplitGreedy      a range is split so
 --   SplitFew         into at most 42 intervals
 --   HalvedExactly    twice a half is the sum with its difference, or without it; Torn where there is no such half
---   RoundedDown      the mean is the greatest integer not over the quotient
+--   OneMean          of every sum and every count of minutes from 1 on the mean is a nearest whole number, and no other is
 --   ExactAmounts     the amount of a trend is exact: a finite float with the sign plus, the size divided by 2^(j-1)
-use Rattle.std.specs.Prelude.{◌≡◌, ℕ, ◌+◌, ◌-◌, ◌*◌, ◌%◌, ◌^◌, ◌≤◌, false, List, [], ◌∷◌, length, ℤ, pos, ◌+ℤ◌, ◌-ℤ◌, ◌*ℤ◌, ◌≤ℤ◌, ◌<ℤ◌, Ok, Err, ◌≢◌}
+use Rattle.std.specs.Prelude.{◌≡◌, ℕ, ◌+◌, ◌-◌, ◌*◌, ◌%◌, ◌^◌, ◌≤◌, false, List, [], ◌∷◌, length, ℤ, ◌+ℤ◌, ◌-ℤ◌, Ok, Err, ◌≢◌}
 use lib.Ieee.Exact.{HasValue}
 use Rattle.haar.specs.Trend.{amount}
 use Rattle.warehouse.specs.declared.fault.Fault.{Fault}
 use Rattle.warehouse.specs.declared.fault.Fault.TheVariants.{Torn}
-use Rattle.warehouse.specs.Mean.{mean_of}
+use Rattle.warehouse.specs.Mean.{Nearest, mean_of}
 use Rattle.warehouse.specs.Read.{halve, Interval, interval, pieces}
 
 -- an interval of level j starts at a and ends by b
@@ -34,8 +34,8 @@ HalvedExactly =
     → ((x : ℤ) → halve c k s d ≡ Ok x → (k % 2 ≡ 0 → x +ℤ x ≡ s +ℤ d) × (k % 2 ≡ 1 → x +ℤ x ≡ s -ℤ d))
     × ((f : Fault) → halve c k s d ≡ Err f → (f ≡ Torn c) × ((x : ℤ) → x +ℤ x ≢ s +ℤ d))
 
-abbrev pub RoundedDown : Type 0
-RoundedDown = (z : ℤ) (d : ℕ) → 1 ≤ d → ((pos d *ℤ mean_of z d) ≤ℤ z) × (z <ℤ (pos d *ℤ mean_of z d +ℤ pos d))
+abbrev pub OneMean : Type 0
+OneMean = (z : ℤ) (d : ℕ) → 1 ≤ d → Nearest z d (mean_of z d) × ((q : ℤ) → Nearest z d q → q ≡ mean_of z d)
 
 abbrev pub ExactAmounts : Type 0
 ExactAmounts = (n j : ℕ) → n ≤ 2 ^ 53 → 1 ≤ j → j ≤ 20 → HasValue (amount j n) false n (2 ^ (j - 1))

@@ -26,7 +26,7 @@ impl<S: Store> Warehouse<S> {
         answered(self.sum_reading(from, to), Asked::Minutes(from, to))
     }
 
-    // The mean of the minutes from `from` to `to - 1`, rounded.
+    // The mean of the minutes from `from` to `to - 1`, to the nearest; exactly half goes to the even neighbour.
     pub fn mean(&self, from: u32, to: u32) -> Result<Reading, Refusal>
         ensures { result ≡ mean_answer (known S.means self.now) from to }
     {

@@ -1,6 +1,6 @@
 // The laws of reading back: each function states one, and does nothing; the lemma that its attribute names is the proof.
 ghost use Rattle.warehouse.specs.Faithful.{ReadsBack, WithoutBands};
-ghost use Rattle.warehouse.specs.Laws.{SplitGreedy, SplitFew, HalvedExactly, RoundedDown, ExactAmounts};
+ghost use Rattle.warehouse.specs.Laws.{SplitGreedy, SplitFew, HalvedExactly, OneMean, ExactAmounts};
 
 #[tactic(auto, using(crate::proofs::Splits::split_greedy))]
 pub fn split_greedy_stands()
@@ -17,9 +17,8 @@ pub fn halved_exactly_stands()
     ensures { HalvedExactly }
 {}
 
-#[tactic(auto, using(crate::proofs::Splits::rounded_down))]
-pub fn rounded_down_stands()
-    ensures { RoundedDown }
+pub fn one_mean_stands()
+    ensures { OneMean }
 {}
 
 #[tactic(auto, using(crate::proofs::Halving::exact_amounts))]

@@ -4,5 +4,7 @@
 pub mod cells;
 pub mod coefficient;
 pub mod laws;
+pub mod narrow;
+pub mod tile;
 pub mod trend;
 pub mod written;

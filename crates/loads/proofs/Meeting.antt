@@ -83,13 +83,16 @@ tiles_fit T n m p t a b h l =
 pub before_next : (T t : ℕ) → t < T → tiles_before (T - t) ≡ tiles_before (T - 1 - t) + 16 ^ (T - 1 - t)
 before_next T t h = ap tiles_before (omega arith) ∙ before_suc (T - 1 - t)
 
--- the code's shifts stay in range
-pub span_fits : (T n m p t a b base : ℕ) → t < T → T ≤ 5 → n ≤ 4 * T → m ≤ n → p < 2 ^ (n - m) → a ≡ 4 * t + 4 - m → b ≡ m - (4 * t + 4) → base ≡ tiles_before (T - 1 - t) → base + p / 2 ^ a * 2 ^ b + 2 ^ b ≤ 69905
-span_fits T n m p t a b base h u v w x e f g =
-    let q = tiles_fit T n m p t h v w x in
-    let r = before_next T t h in
-    let z = before_most (T - t) (omega arith) in
-    rw (e, f, g) (omega arith)
+-- the index of a chunk in a tree of at most five bands
+pub index_bound : (T n m p : ℕ) → T ≤ 5 → n ≤ 4 * T → p < 2 ^ (n - m) → p < 2 ^ 20
+index_bound T n m p few held inside = omega (arith, pow_mono {i = n - m} {j = 20} (omega arith))
+
+-- the first tile's index and the tiles from it on, as the code's shifts make it
+pub first_fits : (T n m p t a b : ℕ) → t < T → T ≤ 5 → n ≤ 4 * T → m ≤ n → p < 2 ^ (n - m) → a ≡ 4 * t + 4 - m → b ≡ m - (4 * t + 4) → (p / 2 ^ a * 2 ^ b + 2 ^ b ≤ 16 ^ (T - 1 - t)) × (16 ^ (T - 1 - t) ≤ 65536)
+first_fits T n m p t a b h u v w x e f = (
+  rw (e, f) (tiles_fit T n m p t h v w x),
+  omega (arith, sixteen (T - 1 - t), pow_mono {i = 4 * (T - 1 - t)} {j = 16} (omega arith)),
+)
 
 slot_lt : (n m p : ℕ) (s : Coefficient) → Meets n m p s → slot s < 16
 slot_lt n m p (TileSum t k) h = omega arith
@@ -136,6 +139,9 @@ module _ (T n m p : ℕ) (some : 1 ≤ T) (held : n ≤ 4 * T) (low : m ≤ n) (
 
   pub span_most : (t : ℕ) → t < T → first_cell T m p t + 16 * 2 ^ (m - (4 * t + 4)) ≤ 16 * tiles_before (T - t)
   span_most t h = omega (arith, tiles_fit T n m p t h held low inside, before_next T t h)
+
+  pub span_bound : (t : ℕ) → t < T → T ≤ 5 → first_cell T m p t + 16 * 2 ^ (m - (4 * t + 4)) ≤ 1118480
+  span_bound t h few = omega (arith, span_most t h, before_most (T - t) (omega arith))
 
   -- no touched cell in the bands that are not in use, nor in a band before and after the tiles that meet the chunk
   pub gap_top : Gap T n m p 0 (16 * tiles_before (T - bands_in_use n))

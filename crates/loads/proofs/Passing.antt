@@ -9,9 +9,6 @@ pub handed : {A E : Type 0} (r : Result A E) (P P' : Type 0) (Q : E → Type 0) 
 handed (Ok _) P P' Q f h = f h
 handed (Err _) P P' Q f h = h
 
-pub next_to : (start at : ℕ) → start + at + 1 ≡ start + (at + 1)
-next_to start at = omega arith
-
 -- counting down, the number before is the next one's
 pub down_up : (f : ℕ → Type 0) (b : ℕ) → 0 < b → f b → f (b - 1 + 1)
 down_up f b h = let e : b ≡ b - 1 + 1 = omega arith in subst f e

@@ -1,7 +1,6 @@
 -- The touched cells of a band whose tile lies over the chunk, level by level.
-use Rattle.std.proofs.Common.{◌≡◌, ℕ, suc, ◌+◌, ◌-◌, ◌*◌, ◌/◌, ◌%◌, ◌^◌, ◌<◌, ◌≤◌, ◌⊎◌, min, sym, refl, ap, ◌∙◌, subst, ap₂, inl, inr, ⊎_elim, mod-lt, div-add-mod', div-one, arith, pow_pos, pow_mono}
-use native.Mathlib.Nat.{two-pow-succ, div-eq_of_lt, mod-eq_of_lt}
-use Rattle.std.proofs.lemmas.Nat.{one_shl}
+use Rattle.std.proofs.Common.{◌≡◌, ℕ, suc, ◌+◌, ◌-◌, ◌*◌, ◌/◌, ◌%◌, ◌^◌, ◌<◌, ◌≤◌, ◌⊎◌, min, sym, refl, ap, ◌∙◌, subst, inl, inr, ⊎_elim, mod-lt, div-add-mod', div-one, arith, pow_pos, pow_mono}
+use native.Mathlib.Nat.{two-pow-succ, div-eq_of_lt}
 use Rattle.std.proofs.lemmas.Bool.{cases_lt}
 use Rattle.haar.specs.declared.coefficient.Coefficient.{Coefficient}
 use Rattle.haar.specs.declared.coefficient.Coefficient.TheVariants.{TileSum, Difference}
@@ -10,7 +9,7 @@ use Rattle.haar.specs.Count.{bands_in_use}
 use Rattle.loads.specs.Reach.{Meets, Gap, first_met, first_cell, row_cell}
 use Rattle.haar.proofs.Numbers.{same_pow}
 use Rattle.haar.proofs.Places.{number_at}
-use Rattle.loads.proofs.Meeting.{within, tile_met, sum_meets, level_met, row_of, in_band, span_most, span_count}
+use Rattle.loads.proofs.Meeting.{within, tile_met, sum_meets, level_met, row_of, in_band, span_most, span_bound, span_count}
 
 module _ (T n m p : ℕ) (some : 1 ≤ T) (held : n ≤ 4 * T) (low : m ≤ n) (inside : p < 2 ^ (n - m)) (t : ℕ) (own : t < T) (short : m < 4 * t + 4) where
   one : 2 ^ (m - (4 * t + 4)) ≡ 1
@@ -115,23 +114,18 @@ module _ (T n m p : ℕ) (some : 1 ≤ T) (held : n ≤ 4 * T) (low : m ≤ n) (
         let y = touched_at _ a.0 in
         omega (arith, a.1, y.2, e, mod-lt (first_met m p j + (2 ^ (m - j) - 1)) (pow_pos (4 * t + 4 - j)), row_half, row_most)
 
-    -- its first touched cell, as the machine adds it up from the index
-    pub row_start : (base first : ℕ) → base ≡ first_cell T m p t → first ≡ first_met m p j → base + (1 * 2 ^ (4 * t + 4 - j) % 4294967296 + first % (1 * 2 ^ (4 * t + 4 - j) % 4294967296)) ≡ row_cell T m p t j + first_met m p j % 2 ^ (4 * t + 4 - j)
-    row_start base first is e =
-        let w = one_shl (4 * t + 4 - j) 32 (omega arith) in
-        let h = ap₂ (λ x y. x % y) e w in
-        omega (arith, w, h)
-
     pub path_index : m < j → p / 2 ^ (j - m) ≡ first_met m p j
     path_index h = let z : 2 ^ (m - j) ≡ 1 = same_pow (m - j) 0 (omega arith) in sym (ap (λ x. p / 2 ^ (j - m) * x) z ∙ omega arith)
 
-    pub row_index : j ≤ m → T ≤ 5 → p * 2 ^ (m - j) % 4294967296 ≡ first_met m p j
+    pub row_index : j ≤ m → T ≤ 5 → (p * 2 ^ (m - j) ≡ first_met m p j) × (first_met m p j < 2 ^ 20)
     row_index h few =
         let z : 2 ^ (j - m) ≡ 1 = same_pow (j - m) 0 (omega arith) in
-        let e : p * 2 ^ (m - j) ≡ first_met m p j = ap (λ x. x * 2 ^ (m - j)) (sym (ap (λ x. p / x) z ∙ div-one p)) in
         let s = (row_meets 0 (pow_pos (m - j))).inside in
-        let l : first_met m p j < 4294967296 = omega (arith, s, pow_mono {i = n - j} {j = 20} (omega arith)) in
-        ap (λ x. x % 4294967296) e ∙ mod-eq_of_lt l
+        (ap (λ x. x * 2 ^ (m - j)) (sym (ap (λ x. p / x) z ∙ div-one p)), omega (arith, s, pow_mono {i = n - j} {j = 20} (omega arith)))
+
+    -- the cells that the row's touched cells end before are those of five bands at most
+    pub row_bound : T ≤ 5 → row_cell T m p t j + first_met m p j % 2 ^ (4 * t + 4 - j) + 2 ^ (m - j) ≤ 1118480
+    row_bound few = omega (arith, row_fits, row_most, row_last, one, span_bound T n m p some held low inside t own few)
 
     pub row_count : row_cell T m p t (j - 1) ≤ cell_count T
     row_count = omega (arith, row_most, row_last, span_most T n m p some held low inside t own, span_count T n m p some held low inside t, one)

@@ -4,12 +4,13 @@ ghost use Rattle.std.specs.Result.{MatchResult};
 ghost use Rattle.haar.specs.Tiles.{tiles_before, cell_count};
 ghost use Rattle.haar.specs.Count.{bands_in_use};
 ghost use Rattle.loads.specs.declared.reach.Reach.{Reach};
-ghost use Rattle.loads.specs.Reach.{at_reach, Gap, Takes, first_cell, row_cell};
+ghost use Rattle.loads.specs.Reach.{at_reach, Gap, Takes, first_met, first_cell, row_cell};
 ghost use Rattle.loads.specs.Tree.{minutes_of};
 
 use crate::reach::Reach;
 use crate::share::ChunkTree;
-use haar::cells::tiles_before;
+use haar::narrow::Narrow;
+use haar::tile::{Tile, slot};
 use haar::written::bands_in_use;
 
 // What is done at each touched cell of a chunk r with the data g.
@@ -28,14 +29,32 @@ pub(crate) trait Pass {
 }
 
 // slot 0 of the first tile of a band that meets the chunk
-fn first_cell(reach: Reach, band: u8) -> u32
+fn first_cell(reach: Reach, band: u8) -> Narrow
     requires { band < reach.bands }
-    ensures is { result ≡ first_cell reach.bands reach.level reach.index band }
-    ensures most { result + 16 * 2 ^ (reach.level - (4 * band + 4)) ≤ 1118480 }
+    ensures is { result.number ≡ first_cell reach.bands reach.level reach.index band }
+    ensures most { result.number + 16 * 2 ^ (reach.level - (4 * band + 4)) ≤ 1118480 }
 {
     let top = 4 * band + 4;
-    let tile = (reach.index >> top.saturating_sub(reach.level)) << reach.level.saturating_sub(top);
-    16 * (tiles_before(reach.bands - 1 - band) + tile)
+    let over = Narrow {
+        number: reach.index,
+    } >> top.saturating_sub(reach.level);
+    let tile = Tile {
+        bands: reach.bands,
+        band,
+        index: over << reach.level.saturating_sub(top),
+    };
+    tile.start()
+}
+
+// the first touched cell of a level of a band whose tile lies over the chunk, from the first touched index
+fn row_start(reach: Reach, band: u8, level: u8, index: Narrow) -> Narrow
+    requires over { reach.level < 4 * band + 4 }
+    requires level { (4 * band < level) × ((level ≤ 4 * band + 4) × (level ≤ reach.size)) }
+    requires first { index.number ≡ first_met reach.level reach.index level }
+    ensures is { result.number ≡ row_cell reach.bands reach.level reach.index band level + first_met reach.level reach.index level % 2 ^ (4 * band + 4 - level) }
+    ensures most { result.number + 2 ^ (reach.level - level) ≤ 1118480 }
+{
+    first_cell(reach, band) + slot(level, index)
 }
 
 // a band whose tiles that meet the chunk lie inside it: each of their cells is touched
@@ -46,7 +65,10 @@ fn inside<P: Pass>(pass: &mut P, chunk: &ChunkTree<'_>, band: u8) -> Result<(), 
 {
     let start = first_cell(chunk.reach, band);
     for at in 0..16u32 << (chunk.reach.level - (4 * band + 4)) {
-        pass.take(start + at, chunk.tile_share(band, at))?;
+        pass.take(
+            (start + Narrow { number: at }).number,
+            chunk.tile_share(band, at),
+        )?;
     }
     Ok(())
 }
@@ -58,12 +80,11 @@ fn path<P: Pass>(pass: &mut P, chunk: &ChunkTree<'_>, band: u8, level: u8) -> Re
     requires come { (x : P) × P.passed chunk.now.reach (minutes_of chunk.now) x pass.old (row_cell chunk.now.reach.bands chunk.now.reach.level chunk.now.reach.index band level) }
     ensures { (x : P) → P.passed chunk.now.reach (minutes_of chunk.now) x pass.old (row_cell chunk.now.reach.bands chunk.now.reach.level chunk.now.reach.index band level) → MatchResult result (λ _. P.passed chunk.now.reach (minutes_of chunk.now) x pass.new (row_cell chunk.now.reach.bands chunk.now.reach.level chunk.now.reach.index band (level - 1))) (P.stopped chunk.now.reach (minutes_of chunk.now) x) }
 {
-    let row = 4 * band + 4 - level;
-    let slot = (1 << row) + (chunk.reach.index >> (level - chunk.reach.level)) % (1 << row);
-    pass.take(
-        first_cell(chunk.reach, band) + slot,
-        chunk.path_share(level),
-    )
+    let index = Narrow {
+        number: chunk.reach.index,
+    } >> (level - chunk.reach.level);
+    let cell = row_start(chunk.reach, band, level, index);
+    pass.take(cell.number, chunk.path_share(level))
 }
 
 // the touched cells of a level of a band whose tile lies over the chunk
@@ -76,12 +97,16 @@ fn row<P: Pass>(pass: &mut P, chunk: &ChunkTree<'_>, band: u8, level: u8) -> Res
     if level > chunk.reach.level {
         return path(pass, chunk, band, level);
     }
-    let row = 4 * band + 4 - level;
     let more = chunk.reach.level - level;
-    let slot = (1 << row) + (chunk.reach.index << more) % (1 << row);
-    let cell = first_cell(chunk.reach, band) + slot;
+    let index = Narrow {
+        number: chunk.reach.index,
+    } << more;
+    let cell = row_start(chunk.reach, band, level, index);
     for at in 0..1u32 << more {
-        pass.take(cell + at, chunk.difference_at(level, at))?;
+        pass.take(
+            (cell + Narrow { number: at }).number,
+            chunk.difference_at(level, at),
+        )?;
     }
     Ok(())
 }
@@ -93,7 +118,7 @@ fn over<P: Pass>(pass: &mut P, chunk: &ChunkTree<'_>, band: u8) -> Result<(), u3
     requires come { (x : P) × P.passed chunk.now.reach (minutes_of chunk.now) x pass.old (16 * tiles_before (chunk.now.reach.bands - 1 - band)) }
     ensures { (x : P) → P.passed chunk.now.reach (minutes_of chunk.now) x pass.old (16 * tiles_before (chunk.now.reach.bands - 1 - band)) → MatchResult result (λ _. P.passed chunk.now.reach (minutes_of chunk.now) x pass.new (16 * tiles_before (chunk.now.reach.bands - band))) (P.stopped chunk.now.reach (minutes_of chunk.now) x) }
 {
-    pass.take(first_cell(chunk.reach, band), chunk.whole_sum())?;
+    pass.take(first_cell(chunk.reach, band).number, chunk.whole_sum())?;
     for below in (4 * band..chunk.reach.size.min(4 * band + 4)).rev() {
         row(pass, chunk, band, below + 1)?;
     }

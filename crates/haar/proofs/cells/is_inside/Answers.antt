@@ -1,14 +1,10 @@
-use Rattle.std.proofs.Common.{◌-◌, ◌≤◌, arith, pow_mono}
-use Rattle.std.proofs.lemmas.Bool.{ltb-true, lt-ltb}
-use Rattle.std.proofs.lemmas.Nat.{one_shl}
-use Rattle.haar.proofs.Places.{capped}
+use Rattle.std.proofs.Common.{◌-◌, arith}
+use Rattle.std.proofs.lemmas.Bool.{leb-true, le-leb}
 use Rattle.haar.proofs.cells.is_inside.Goals as goal
 
 pub returns-then-level-size : goal.returns-then-level-size
 returns-then-level-size c =
-    let l : c.min.result ≤ c.args.size - c.args.level = omega arith in
-    let e = one_shl c.min.result 64 (omega arith) in
-    let p = pow_mono l in (
-      λ t. (c.if-level-size.true, omega (arith, ltb-true _ _ t, e, p)),
-      λ u. lt-ltb _ _ (omega (arith, capped (c.args.size - c.args.level) c.min.result c.args.index (omega arith) c.ranges.index.fits u.1, e)),
+    let b = c.bits_of.ensures (c.args.size - c.args.level) in (
+      λ t. (c.if-level-size.true, b.0 (omega (arith, leb-true _ _ t))),
+      λ u. le-leb _ _ (omega (arith, b.1 u.1)),
     )

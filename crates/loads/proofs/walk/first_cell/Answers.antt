@@ -1,27 +1,43 @@
-use Rattle.std.proofs.Common.{◌≡◌, ◌+◌, ◌-◌, ◌*◌, ◌/◌, ◌^◌, ◌≤◌, ap, ◌∙◌, ap₂, arith}
-use Rattle.haar.specs.Tiles.{tiles_before}
-use Rattle.loads.proofs.Meeting.{span_fits}
+use Rattle.std.proofs.Common.{◌≡◌, ◌+◌, ◌-◌, ◌*◌, ◌/◌, ◌^◌, ◌<◌, ◌≤◌, ap, ap₂, ◌∙◌, arith, pow_pos}
+use Rattle.haar.specs.declared.coefficient.Coefficient.TheVariants.{TileSum}
+use Rattle.haar.proofs.Places.{number_at}
+use Rattle.loads.specs.Reach.{first_cell}
+use Rattle.loads.proofs.Meeting.{index_bound, first_fits, span_bound}
 use Rattle.loads.proofs.walk.first_cell.Goals as goal
+use Rattle.loads.proofs.walk.first_cell.Goals.{After-saturating_sub-2, After-start}
 
-before : (c : goal.After-tiles_before) → c.tiles_before.result ≡ tiles_before (c.args.reach.bands - 1 - c.args.band)
-before c = c.tiles_before.ensures.is ∙ ap tiles_before (omega (arith, c.args.reach.few))
+fits : (c : After-saturating_sub-2) → let r = c.args.reach in let a = c.saturating_sub.result in let b = c.saturating_sub-2.result in
+    (c.shr-over.result.number * 2 ^ b + 2 ^ b ≤ 16 ^ (r.bands - 1 - c.args.band)) × (16 ^ (r.bands - 1 - c.args.band) ≤ 65536)
+fits c =
+    let r = c.args.reach in
+    let f = first_fits r.bands r.size r.level r.index c.args.band _ _ c.requires r.few r.held r.low r.inside c.saturating_sub.ensures c.saturating_sub-2.ensures in
+    (omega (arith, f.0, ap (λ x. x * 2 ^ c.saturating_sub-2.result) c.shr-over.ensures), f.1)
 
-fits : (c : goal.After-tiles_before) → c.tiles_before.result + c.args.reach.index / 2 ^ c.saturating_sub.result * 2 ^ c.saturating_sub-2.result + 2 ^ c.saturating_sub-2.result ≤ 69905
-fits c = span_fits _ c.args.reach.size c.args.reach.level _ c.args.band _ _ _ c.requires c.args.reach.few c.args.reach.held c.args.reach.low c.args.reach.inside c.saturating_sub.ensures c.saturating_sub-2.ensures (before c)
+pub invariant_of-shr : goal.invariant_of-shr
+invariant_of-shr c =
+    let r = c.args.reach in
+    record { below = omega (arith, index_bound r.bands r.size r.level r.index r.few r.held r.inside) }
 
-pub overflow_add-result : goal.overflow_add-result
-overflow_add-result c = omega (arith, fits c)
+pub shl-requires : goal.shl-requires
+shl-requires c = (omega (arith, c.args.reach.short), omega (arith, fits c))
 
-pub overflow_mul-result : goal.overflow_mul-result
-overflow_mul-result c = omega (arith, fits c)
+pub invariant_of-tile : goal.invariant_of-tile
+invariant_of-tile c = record {
+  few = c.args.reach.few;
+  held = c.requires;
+  inside = omega (arith, c.shl.ensures, fits ((goal.at.invariant_of-tile c).After-saturating_sub-2), pow_pos c.saturating_sub-2.result);
+}
 
-width : (c : goal.After-tiles_before) → 2 ^ c.saturating_sub-2.result ≡ 2 ^ (c.args.reach.level - (4 * c.args.band + 4))
-width c = ap (λ x. 2 ^ x) c.saturating_sub-2.ensures
+number : (c : After-start) → let r = c.args.reach in c.start.result.number ≡ first_cell r.bands r.level r.index c.args.band
+number c =
+    let r = c.args.reach in
+    let k = c.shl.ensures ∙ ap (λ x. x * 2 ^ c.saturating_sub-2.result) c.shr-over.ensures ∙ ap₂ (λ x y. r.index / 2 ^ x * 2 ^ y) c.saturating_sub.ensures c.saturating_sub-2.ensures in
+    omega (arith, c.start.ensures.is, number_at r.bands (TileSum c.args.band c.shl.result.number) r.some, k)
 
 pub returns-clause-is : goal.returns-clause-is
-returns-clause-is c =
-    let e = ap₂ (λ x y. c.args.reach.index / 2 ^ x * 2 ^ y) c.saturating_sub.ensures c.saturating_sub-2.ensures in
-    omega (arith, fits c, before c, e)
+returns-clause-is c = number c
 
 pub returns-clause-most : goal.returns-clause-most
-returns-clause-most c = omega (arith, fits c, width c)
+returns-clause-most c =
+    let r = c.args.reach in
+    omega (arith, number c, span_bound r.bands r.size r.level r.index r.some r.held r.low r.inside c.args.band c.requires r.few)

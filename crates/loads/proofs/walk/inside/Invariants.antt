@@ -5,4 +5,4 @@ use Rattle.loads.proofs.walk.inside.Given as goal
 
 abbrev pub invariant-loop-at : goal.invariant-loop-at
 invariant-loop-at g l =
-    (x : _) → g.P.Pass.passed l.chunk.reach (minutes_of l.chunk) x l.initial.pass (16 * tiles_before (l.chunk.reach.bands - 1 - l.band)) → g.P.Pass.passed l.chunk.reach (minutes_of l.chunk) x l.pass (l.start + l.at)
+    (x : _) → g.P.Pass.passed l.chunk.reach (minutes_of l.chunk) x l.initial.pass (16 * tiles_before (l.chunk.reach.bands - 1 - l.band)) → g.P.Pass.passed l.chunk.reach (minutes_of l.chunk) x l.pass (l.start.number + l.at)

@@ -12,7 +12,7 @@ use Rattle.loads.proofs.Passing.{passed_on, down_up}
 use Rattle.loads.proofs.walk.over.Goals as goal
 use Rattle.loads.proofs.walk.over.Goals.{After-whole_sum}
 
-taken : (g : _) (c : After-whole_sum g) → let r = c.args.chunk.now.reach in Takes r.bands r.size r.level r.index (minutes_of c.args.chunk.now) c.first_cell.result (to_z w64 (of_z w64 c.whole_sum.result))
+taken : (g : _) (c : After-whole_sum g) → let r = c.args.chunk.now.reach in Takes r.bands r.size r.level r.index (minutes_of c.args.chunk.now) c.first_cell.result.number (to_z w64 (of_z w64 c.whole_sum.result))
 taken g c =
     let r = c.args.chunk.now.reach in
     let f : SFits w64 c.whole_sum.result = search rules in
@@ -25,7 +25,7 @@ taken g c =
     }
 
 -- slot 0 comes next
-come : (g : _) (c : After-whole_sum g) (x : _) → g.P.Pass.passed c.args.chunk.now.reach (minutes_of c.args.chunk.now) x c.args.pass.now (16 * tiles_before (c.args.chunk.now.reach.bands - 1 - c.args.band)) → g.P.Pass.passed c.args.chunk.now.reach (minutes_of c.args.chunk.now) x c.args.pass.now c.first_cell.result
+come : (g : _) (c : After-whole_sum g) (x : _) → g.P.Pass.passed c.args.chunk.now.reach (minutes_of c.args.chunk.now) x c.args.pass.now (16 * tiles_before (c.args.chunk.now.reach.bands - 1 - c.args.band)) → g.P.Pass.passed c.args.chunk.now.reach (minutes_of c.args.chunk.now) x c.args.pass.now c.first_cell.result.number
 come g c x h =
     let r = c.args.chunk.now.reach in
     let b : c.args.band < r.bands = omega (arith, r.held, c.requires.used) in

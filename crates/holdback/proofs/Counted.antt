@@ -9,7 +9,7 @@ use Rattle.store.specs.declared.entry.Entry.{Entry}
 use Rattle.store.specs.Meaning.{Meaning, weight, filled}
 use Rattle.store.specs.Table.{entry_at, lookup, Ascends, LacksAmong}
 use Rattle.store.proofs.Counting.{filled_same, filled_put, weight_one, weight_most}
-use Rattle.store.proofs.Lookups.{miss}
+use Rattle.store.proofs.Lookups.{miss, last_lacked, last_here, last_other}
 use Rattle.holdback.specs.Over.{choose, over, fresh, held_over, Alike, zero_at}
 use Rattle.store.proofs.Tidy.{Tidy, tidy_part}
 
@@ -22,16 +22,6 @@ choose_held (negsuc n) b z = refl
 -- nothing held: the number below
 pub choose_none : (h b : ℤ) → h ≡ pos 0 → choose h b ≡ b
 choose_none h b e = ap (λ (x : ℤ). choose x b) e
-
--- the last entry and the others
-last_lacked : (es : List Entry) (n : ℕ) → Ascends es (suc n) → LacksAmong es n (entry_at es n).cell
-last_lacked es n a k l e = let up = a k n l (omega arith) in omega arith
-
-last_here : (es : List Entry) (n : ℕ) → lookup es (suc n) (entry_at es n).cell ≡ (entry_at es n).value
-last_here es n = grind (arith, nat_tests)
-
-last_other : (es : List Entry) (n c : ℕ) → (c ≡ (entry_at es n).cell → ⊥) → lookup es (suc n) c ≡ lookup es n c
-last_other es n c ne = grind (arith, nat_tests)
 
 pub over_here : (es : List Entry) (n : ℕ) (x : ℕ → ℤ) → Tidy es (suc n) → over es (suc n) x (entry_at es n).cell ≡ (entry_at es n).value
 over_here es n x t =

@@ -5,3 +5,4 @@ pub mod Table
 pub mod Contents
 pub mod SparseMeaning
 pub mod Laws
+pub mod Free

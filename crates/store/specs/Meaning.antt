@@ -3,8 +3,9 @@
 --   Lawful           what holds of every store
 --   weight z         1 for a number that is not zero, and 0 for zero
 --   filled x c       how many of the cells below c are not zero
+--   zeros m          how many of a store's cells are zero
 --   Bars m c v       writing v to cell c needs room, and there is none
-use Rattle.std.specs.Prelude.{◌≡◌, ℕ, zero, suc, ◌+◌, ◌^◌, ◌<◌, ◌≤◌, Bool, true, false, ℤ, pos, negsuc, ◌+ℤ◌, ◌≤ℤ◌, ◌<ℤ◌, Ok, Err, Result, ◌≢◌}
+use Rattle.std.specs.Prelude.{◌≡◌, ℕ, zero, suc, ◌+◌, ◌-◌, ◌<◌, ◌≤◌, Bool, true, false, ℤ, pos, negsuc, ◌+ℤ◌, ◌≤ℤ◌, ◌<ℤ◌, Ok, Err, Result, ◌≢◌}
 use Rattle.store.specs.declared.fault.CellFault.{CellFault}
 use Rattle.store.specs.declared.fault.CellFault.TheVariants.{Cell, Full}
 use Rattle.haar.specs.Tiles.{cell_count}
@@ -15,10 +16,6 @@ pub record Meaning : Type 0 where
   pub room : ℤ
   pub clean : Bool
 
-pub record Lawful (m : Meaning) : Type 0 where
-  pub few : m.bands ≤ 5
-  pub most : m.room ≤ℤ pos (2 ^ 21)
-
 abbrev pub weight : ℤ → ℕ
 weight (pos zero) = 0
 weight (pos (suc n)) = 1
@@ -27,6 +24,14 @@ weight (negsuc n) = 1
 unfoldable pub filled : (ℕ → ℤ) → ℕ → ℕ
 filled x zero = 0
 filled x (suc c) = filled x c + weight (x c)
+
+abbrev pub zeros : Meaning → ℕ
+zeros m = cell_count m.bands - filled m.cells (cell_count m.bands)
+
+-- no store has more than five bands, or room for more cells than are zero
+pub record Lawful (m : Meaning) : Type 0 where
+  pub few : m.bands ≤ 5
+  pub room : m.room ≤ℤ pos (zeros m)
 
 abbrev pub Bars : Meaning → ℕ → ℤ → Type 0
 Bars m c v = (weight (m.cells c) ≡ 0) × (weight v ≡ 1) × (m.room <ℤ pos 1)

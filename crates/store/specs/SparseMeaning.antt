@@ -2,8 +2,9 @@
 --   sparse_means       what a sparse store is known by
 --   sparse_puts        a number written to a cell of it
 --   nearest low high   the number from low to high that is nearest to a number
---   Made               a new store: bands and room as asked for, brought into their limits; cells zero; clean
+--   Made               a new store: bands and room as asked for, brought into their limits, of room the cell count too; cells zero; clean
 use Rattle.std.specs.Prelude.{◌≡◌, ℕ, min, max, true, ℤ, pos}
+use Rattle.haar.specs.Tiles.{cell_count}
 use Rattle.store.specs.declared.sparse.Sparse.{Sparse}
 use Rattle.store.specs.Meaning.{Meaning}
 use Rattle.store.specs.Contents.{Stored, table_means}
@@ -24,5 +25,5 @@ nearest low high n = max low (min n high)
 pub record Made (T most : ℕ) (m : Meaning) : Type 0 where
   pub bands : m.bands ≡ nearest 1 5 T
   pub cells : (k : ℕ) → m.cells k ≡ pos 0
-  pub room : m.room ≡ pos (nearest 1 1024 most)
+  pub room : m.room ≡ pos (nearest 1 (min 1024 (cell_count m.bands)) most)
   pub clean : m.clean ≡ true

@@ -3,6 +3,7 @@
 
 pub mod entry;
 pub mod fault;
+pub mod free;
 pub mod interface;
 pub mod making;
 pub mod numbers;

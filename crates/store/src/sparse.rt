@@ -1,5 +1,6 @@
 // The sparse store: a table of the nonzero cells.
 ghost use Rattle.std.specs.Prelude.{◌≤◌};
+ghost use Rattle.haar.specs.Tiles.{cell_count};
 ghost use Rattle.store.specs.Contents.{Inside};
 
 use crate::table::Table;
@@ -14,6 +15,7 @@ pub struct Sparse {
     pub(crate) bands: u8,
     ghost spare: { table.used ≤ capacity },
     ghost bounded: { capacity ≤ 1024 },
+    ghost celled: { capacity ≤ cell_count bands },
     ghost roomy: { 1 ≤ capacity },
     ghost few: { bands ≤ 5 },
     ghost some: { 1 ≤ bands },

@@ -17,7 +17,7 @@ use Rattle.store.proofs.Tidy.{Tidy, tidy}
 use Rattle.holdback.specs.declared.held.HoldBack.{HoldBack}
 use Rattle.holdback.specs.Layer.{Goes, layer_means}
 use Rattle.holdback.specs.Over.{choose, held_over}
-use Rattle.holdback.proofs.Counted.{choose_held, choose_none}
+use Rattle.holdback.specs.Laws.{choose_held, choose_none}
 use Rattle.holdback.proofs.Holding.{hold_puts, pass_puts}
 
 -- a cell that the store below reads is not refused

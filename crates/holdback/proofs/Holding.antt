@@ -8,7 +8,7 @@ use Rattle.store.specs.Table.{lookup, StoredAmong}
 use Rattle.store.proofs.Counting.{filled_put, put_keeps}
 use Rattle.store.proofs.Tidy.{Tidy}
 use Rattle.holdback.specs.Over.{choose, over, fresh, held_over}
-use Rattle.holdback.proofs.Counted.{choose_held, choose_none, fresh_filled}
+use Rattle.holdback.specs.Laws.{choose_held, choose_none, fresh_filled}
 
 -- room and nonzero cells of the store below stay together, so those of the layer do
 pub held_puts : (m m' : Meaning) (es fs : List Entry) (n k c : ℕ) (v : ℤ) → c < cell_count m.bands → Tidy es n → Tidy fs k → m'.bands ≡ m.bands

@@ -13,7 +13,8 @@ use Rattle.holdback.specs.Layer.{Sinks}
 use Rattle.holdback.specs.Over.{fresh, held_over}
 use Rattle.store.proofs.Tidy.{Tidy, tidy_part}
 use Rattle.store.proofs.Counting.{weight_one}
-use Rattle.holdback.proofs.Counted.{over_here, over_other, alike_none}
+use Rattle.holdback.specs.Laws.{over_here, over_other}
+use Rattle.holdback.proofs.Counted.{alike_none}
 use Rattle.holdback.proofs.Holding.{held_puts}
 
 inside_of : (a b : Meaning) (c : ℕ) → b.bands ≡ a.bands → c < cell_count a.bands → c < cell_count b.bands

@@ -13,7 +13,7 @@ impl<S: Store> Store for HoldBack<S> {
 
     ghost settled = { Rests S.Store.means S.Store.puts S.Store.settled };
 
-    ghost laws = { λ h. layer_lawful _ _ _ (S.Store.laws h.below) };
+    ghost laws = { λ h. layer_lawful h.held _ (S.Store.laws h.below) };
 
     fn bands(&self) -> u8 {
         self.below.bands()

@@ -31,16 +31,6 @@ hit es (suc n) c at a h =
           grind (arith, nat_tests)
     ]
 
--- the last entry and the others
-pub last_lacked : (es : List Entry) (n : ℕ) → Ascends es (suc n) → LacksAmong es n (entry_at es n).cell
-last_lacked es n a k l e = let up = a k n l (omega arith) in omega arith
-
-pub last_here : (es : List Entry) (n : ℕ) → lookup es (suc n) (entry_at es n).cell ≡ (entry_at es n).value
-last_here es n = grind (arith, nat_tests)
-
-pub last_other : (es : List Entry) (n c : ℕ) → (c ≡ (entry_at es n).cell → ⊥) → lookup es (suc n) c ≡ lookup es n c
-last_other es n c ne = grind (arith, nat_tests)
-
 -- one of the two holds
 pub held_or_not : (es : List Entry) (n c : ℕ) → ((at : ℕ) × HeldAmong es n c at) ⊎ LacksAmong es n c
 held_or_not es zero c = inr (λ k l. absurd (omega arith))

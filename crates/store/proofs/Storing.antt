@@ -1,14 +1,14 @@
 -- A number stored in a table: what of it holds of a store.
-use Rattle.std.proofs.Common.{◌≡◌, ℕ, ◌+◌, ◌<◌, ◌≤◌, List, ℤ, pos, Ok, Err, Result, sym, refl, ap, ◌∙◌, subst, inl, inr, arith}
+use Rattle.std.proofs.Common.{◌≡◌, ℕ, ◌+◌, ◌<◌, ◌≤◌, List, ℤ, pos, Ok, Err, Result, sym, refl, ap, ap₂, ◌∙◌, subst, inl, inr, arith}
 use Rattle.std.proofs.lemmas.Bool.{cases_eq, cases_lt}
 use Rattle.haar.specs.Tiles.{cell_count}
 use Rattle.store.specs.declared.entry.Entry.{Entry}
 use Rattle.store.specs.declared.fault.CellFault.{CellFault}
 use Rattle.store.specs.declared.fault.CellFault.TheVariants.{Full}
-use Rattle.store.specs.Meaning.{weight}
-use Rattle.store.specs.Table.{entry_at, lookup, InsideAmong, LacksAmong, HeldAmong, StoredAmong, Overfills, PutsAmong}
-use Rattle.store.proofs.Counting.{weight_most, weight_one}
-use Rattle.store.proofs.Lookups.{hit, miss, held_or_not}
+use Rattle.store.specs.Meaning.{weight, filled}
+use Rattle.store.specs.Table.{entry_at, lookup, CountedAmong, LacksAmong, HeldAmong, StoredAmong, Overfills, PutsAmong}
+use Rattle.store.proofs.Counting.{weight_most, weight_one, filled_put}
+use Rattle.store.proofs.Lookups.{hit, miss}
 use Rattle.store.proofs.Tidy.{Tidy}
 
 -- zero for a cell that has no entry: nothing to do
@@ -55,21 +55,15 @@ puts_refused most es fs n k c v f p =
     ]
 
 module _ (T most : ℕ) (es fs : List Entry) (n k c : ℕ) (v : ℤ) where
-  -- each cell of the new table is c, or has an entry in the old one
-  inside_stored : c < cell_count T → Tidy fs k → StoredAmong es n c v fs k → InsideAmong T es n → InsideAmong T fs k
-  inside_stored l t s h i u =
-      let d = (entry_at fs i).cell in
-      elim (cases_eq d c) [
-        | inl q ↦ omega arith
-        | inr ne ↦ elim (held_or_not es n d) [
-          | inl old ↦ let e = old.1.is in let b = h old.0 old.1.used in omega arith
-          | inr lacks ↦ absurd (t.nonzero i u (sym (hit fs k d i t.ascends (record { used = u; is = refl })) ∙ s.others d ne ∙ miss es n d lacks))
-        ]
-      ]
-
-  pub inside_puts : (r : Result Unit CellFault) → PutsAmong most es n c v r fs k → c < cell_count T → Tidy fs k → InsideAmong T es n → InsideAmong T fs k
-  inside_puts (Ok d) p l t h = inside_stored l t (p.stored refl) h
-  inside_puts (Err f) p l t h = λ i u. let e = p.kept f refl in let b = h i (omega (arith, e.1)) in let q = ap (λ (xs : List Entry). (entry_at xs i).cell) e.0 in omega arith
+  -- nonzero cells and entries in use change alike
+  pub counted_puts : (r : Result Unit CellFault) → PutsAmong most es n c v r fs k → c < cell_count T → CountedAmong T es n → CountedAmong T fs k
+  counted_puts (Ok d) p l h =
+      let s = p.stored refl in
+      let put = filled_put (lookup es n) (lookup fs k) c (cell_count T) l (λ d _ ne. s.others d ne) in
+      let here = ap weight s.here in
+      let used = s.used in
+      omega arith
+  counted_puts (Err f) p l h = let e = p.kept f refl in let q = ap₂ (λ xs i. filled (lookup xs i) (cell_count T)) e.0 e.1 in omega (arith, e.1)
 
   pub spare_puts : (r : Result Unit CellFault) → PutsAmong most es n c v r fs k → n ≤ most → k ≤ most
   spare_puts (Ok d) p l =

@@ -2,7 +2,7 @@
 --   Empty         no entry is in use
 --   in_use        the entries in use
 --   cell_at k     the cell of the entry at place k
---   Inside T      every entry's cell is one of a store of T bands
+--   Counted T     the nonzero cells of a store of T bands are as many as the entries in use
 --   Lacks         no entry has the cell
 --   Held, Gap     where a cell's entry is, or where a new one would stand
 --   Finds         what a lookup answers: the number of the cell's entry, or none
@@ -15,7 +15,7 @@ use Rattle.store.specs.declared.entry.Entry.{Entry}
 use Rattle.store.specs.declared.fault.CellFault.{CellFault}
 use Rattle.store.specs.declared.table.Table.{Table}
 use Rattle.store.specs.Meaning.{Meaning}
-use Rattle.store.specs.Table.{entry_at, InsideAmong, LacksAmong, HeldAmong, GapAmong, FindsAmong, StoredAmong, PutsAmong, lookup}
+use Rattle.store.specs.Table.{entry_at, CountedAmong, LacksAmong, HeldAmong, GapAmong, FindsAmong, StoredAmong, PutsAmong, lookup}
 
 module _ {N : ℕ} (t : Table N) where
   abbrev pub Empty : Type 0
@@ -48,8 +48,8 @@ module _ {N : ℕ} (t : Table N) where
   abbrev pub table_means : ℕ → ℕ → Meaning
   table_means bands capacity = record { bands = bands; cells = lookup t.entries t.used; room = pos (capacity - t.used); clean = true }
 
-abbrev pub Inside : {N : ℕ} → ℕ → Table N → Type 0
-Inside T t = InsideAmong T t.entries t.used
+abbrev pub Counted : {N : ℕ} → ℕ → Table N → Type 0
+Counted T t = CountedAmong T t.entries t.used
 
 abbrev pub Puts : {N : ℕ} → ℕ → Table N → ℕ → ℤ → Result Unit CellFault → Table N → Type 0
 Puts most t c v r u = PutsAmong most t.entries t.used c v r u.entries u.used

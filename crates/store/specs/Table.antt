@@ -3,7 +3,7 @@
 --   Every P es n       P holds of each entry in use
 --   Ascends            cells rise from entry to entry, so that no cell has two
 --   Nonzero            no entry in use holds zero
---   InsideAmong T      every entry's cell is one of a store of T bands
+--   CountedAmong T     the nonzero cells of a store of T bands are as many as the entries in use
 --   LacksAmong         no entry in use has the cell
 --   lookup             the number of a cell: that of its entry, or zero
 --   HeldAmong, GapAmong    where a cell's entry is, or where a new one would stand
@@ -15,7 +15,7 @@ use Rattle.haar.specs.Tiles.{cell_count}
 use Rattle.store.specs.declared.entry.Entry.{Entry}
 use Rattle.store.specs.declared.fault.CellFault.{CellFault}
 use Rattle.store.specs.declared.fault.CellFault.TheVariants.{Full}
-use Rattle.store.specs.Meaning.{weight}
+use Rattle.store.specs.Meaning.{weight, filled}
 
 -- the entry at a place, and the empty one past the table's end
 abbrev pub entry_at : List Entry → ℕ → Entry
@@ -33,10 +33,6 @@ Ascends es n = (j k : ℕ) → j < k → k < n → (entry_at es j).cell < (entry
 abbrev pub Nonzero : List Entry → ℕ → Type 0
 Nonzero = Every (λ e. e.value ≢ pos 0)
 
--- cells are below the cell count
-abbrev pub InsideAmong : ℕ → List Entry → ℕ → Type 0
-InsideAmong T = Every (λ e. e.cell < cell_count T)
-
 -- no entry has the cell
 abbrev pub LacksAmong : List Entry → ℕ → ℕ → Type 0
 LacksAmong es n c = Every (λ e. e.cell ≢ c) es n
@@ -45,6 +41,10 @@ LacksAmong es n c = Every (λ e. e.cell ≢ c) es n
 abbrev pub lookup : List Entry → ℕ → ℕ → ℤ
 lookup es zero c = pos 0
 lookup es (suc n) c = cond ((entry_at es n).cell == c) (entry_at es n).value (lookup es n c)
+
+-- each entry has a cell of the store
+abbrev pub CountedAmong : ℕ → List Entry → ℕ → Type 0
+CountedAmong T es n = filled (lookup es n) (cell_count T) ≡ n
 
 -- the entry at a place has the cell
 pub record HeldAmong (es : List Entry) (n c at : ℕ) : Type 0 where

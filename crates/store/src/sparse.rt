@@ -1,7 +1,7 @@
 // The sparse store: a table of the nonzero cells.
 ghost use Rattle.std.specs.Prelude.{◌≤◌};
 ghost use Rattle.haar.specs.Tiles.{cell_count};
-ghost use Rattle.store.specs.Contents.{Inside};
+ghost use Rattle.store.specs.Contents.{Counted};
 
 use crate::table::Table;
 
@@ -19,5 +19,5 @@ pub struct Sparse {
     ghost roomy: { 1 ≤ capacity },
     ghost few: { bands ≤ 5 },
     ghost some: { 1 ≤ bands },
-    ghost inside: { Inside bands table },
+    ghost counted: { Counted bands table },
 }

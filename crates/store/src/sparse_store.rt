@@ -15,7 +15,7 @@ impl Store for Sparse {
     // nothing is ever held back
     ghost settled = { λ s t. t ≡ s };
 
-    ghost laws = { λ s. table_lawful s.table s.bands s.capacity s.few s.celled s.inside };
+    ghost laws = { λ s. table_lawful s.table s.bands s.capacity s.few s.celled s.counted };
 
     fn bands(&self) -> u8 {
         self.bands

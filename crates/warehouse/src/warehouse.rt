@@ -1,12 +1,14 @@
-// The size of a warehouse, and what lies inside it.
+// The size of a warehouse, what lies inside it, and how many of its cells are free.
 ghost use Rattle.std.specs.Prelude.{◌≡◌, ℕ, ◌-◌, ◌^◌, ◌<◌, ◌≤◌, ◌↔◌, IsTrue};
 ghost use Rattle.haar.specs.Places.{InSize, InTree};
+ghost use Rattle.store.specs.Free.{free_cells, IsFree};
 ghost use Rattle.store.specs.Meaning.{Lawful};
 ghost use Rattle.warehouse.specs.Grading.{inside};
 ghost use Rattle.warehouse.specs.View.{known};
 
 use crate::record::Warehouse;
 use haar::cells::is_inside;
+use store::free::free_cells;
 use store::interface::Store;
 
 impl<S: Store> Warehouse<S> {
@@ -26,5 +28,13 @@ impl<S: Store> Warehouse<S> {
         ensures tree { IsTrue result → InTree (S.means self.now.store).bands level index }
     {
         is_inside(self.size(), level, index)
+    }
+
+    /// The figure of free cells of its store.
+    pub fn free_cells(&self) -> u32
+        ensures free { IsFree (S.means self.now.store) result }
+        ensures is { result ≡ free_cells (S.means self.now.store) }
+    {
+        free_cells(&self.store)
     }
 }

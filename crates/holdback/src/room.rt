@@ -33,7 +33,7 @@ impl<S: Store> HoldBack<S> {
         ensures { Fits (layer_means S.Store.means self.now) more result }
     {
         let fresh = u32::try_from(self.count_fresh()).unwrap();
-        // room is at most 2^21, so the sum may stop at the largest number
+        // room is at most the zero cells, so the sum may stop at the largest number
         self.below.fits(more.saturating_add(fresh))
     }
 

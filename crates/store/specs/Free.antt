@@ -4,13 +4,13 @@
 use Rattle.std.specs.Prelude.{◌≡◌, ℕ, ◌+◌, ◌≤◌, ℤ, pos, negsuc, ◌≤ℤ◌, ◌<ℤ◌}
 use Rattle.store.specs.Meaning.{Meaning, zeros}
 
--- a number, or 0 for one below zero
-abbrev pub none_below : ℤ → ℕ
-none_below (pos n) = n
-none_below (negsuc n) = 0
+-- a number, or 0 where it is below zero
+abbrev pub or_zero : ℤ → ℕ
+or_zero (pos n) = n
+or_zero (negsuc n) = 0
 
 abbrev pub free_cells : Meaning → ℕ
-free_cells m = none_below m.room
+free_cells m = or_zero m.room
 
 pub record IsFree (m : Meaning) (n : ℕ) : Type 0 where
   pub fits : pos 0 ≤ℤ m.room → pos n ≤ℤ m.room

@@ -2,7 +2,7 @@
 --   sparse_means       what a sparse store is known by
 --   sparse_puts        a number written to a cell of it
 --   nearest low high   the number from low to high that is nearest to a number
---   Made               a new store: bands and room as asked for, brought into their limits, of room the cell count too; cells zero; clean
+--   Made               a new store: bands and room as asked for, brought into their limits; cells zero; clean
 use Rattle.std.specs.Prelude.{◌≡◌, ℕ, min, max, true, ℤ, pos}
 use Rattle.haar.specs.Tiles.{cell_count}
 use Rattle.store.specs.declared.sparse.Sparse.{Sparse}

@@ -1,4 +1,4 @@
-use Rattle.std.proofs.Common.{◌≡◌, ◌≤◌, arith, rules}
+use Rattle.std.proofs.Common.{◌≡◌, arith, rules}
 use Rattle.haar.specs.Tiles.{cell_count}
 use Rattle.store.proofs.Zeros.{filled_none, some_cells}
 use Rattle.store.proofs.sparse.Sparse.new.Goals as goal

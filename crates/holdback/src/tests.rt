@@ -1,6 +1,7 @@
 // The layer over a sparse store, on small examples.
 use crate::held::HoldBack;
 use store::fault::CellFault;
+use store::free::free_cells;
 use store::interface::Store;
 use store::sparse::Sparse;
 
@@ -63,4 +64,12 @@ fn pile_settles(rt: HostRuntime) {
     assert_eq!(rt; pile.read(2), Ok(5));
     let below = pile.into_inner().into_inner();
     assert_eq!(rt; below.read(9), Ok(6));
+}
+
+#[test]
+fn held_cells_are_not_free(rt: HostRuntime) {
+    let mut layer = HoldBack::new(Sparse::new(1, 1024));
+    assert_eq!(rt; layer.write(5, 7), Ok(()));
+    assert_eq!(rt; free_cells(&layer), 15);
+    assert_eq!(rt; free_cells(&layer.into_inner()), 16);
 }

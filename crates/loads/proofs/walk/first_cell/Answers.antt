@@ -1,4 +1,4 @@
-use Rattle.std.proofs.Common.{◌≡◌, ◌+◌, ◌-◌, ◌*◌, ◌/◌, ◌^◌, ◌<◌, ◌≤◌, ap, ap₂, ◌∙◌, arith, pow_pos}
+use Rattle.std.proofs.Common.{◌≡◌, ◌+◌, ◌-◌, ◌*◌, ◌/◌, ◌^◌, ◌≤◌, ap, ap₂, ◌∙◌, arith, pow_pos}
 use Rattle.haar.specs.declared.coefficient.Coefficient.TheVariants.{TileSum}
 use Rattle.haar.proofs.Places.{number_at}
 use Rattle.loads.specs.Reach.{first_cell}

@@ -1,4 +1,4 @@
-use Rattle.std.proofs.Common.{◌≡◌, ℕ, ◌+◌, ◌-◌, ◌*◌, ◌/◌, ◌%◌, ◌^◌, ◌<◌, ap, arith}
+use Rattle.std.proofs.Common.{◌≡◌, ◌+◌, ◌-◌, ◌*◌, ◌%◌, ◌^◌, ap, arith}
 use Rattle.haar.specs.Tiles.{depth}
 use Rattle.loads.specs.Reach.{first_met, row_cell}
 use Rattle.loads.proofs.Rows.{row_bound}

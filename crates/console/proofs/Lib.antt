@@ -1,5 +1,7 @@
 mod Fronts
 mod Nexts
 mod Onward
+mod Passing
 mod Pieces
 mod Runs
+mod Told

@@ -1,14 +1,12 @@
 // The bytes of a feed, one command after another.
 ghost use Rattle.std.specs.Prelude.{◌≡◌, ◌+◌, ◌^◌, ◌<◌, ◌≤◌, true, false, length};
-ghost use Rattle.warehouse.specs.View.{known};
 ghost use Rattle.console.specs.Playing.{state, Nexts, Plays};
 
 use crate::ends::Sink;
-use crate::printing::print;
-use feed::obeyed::Obeyed;
+use crate::printing::{line_of, print};
 use feed::run::step;
+use feed::stepped::Stepped;
 use loads::open::OpenLoad;
-use std::ops::ControlFlow;
 use store::interface::Store;
 use warehouse::record::Warehouse;
 
@@ -36,14 +34,14 @@ fn obey_next<S: Store, O: Sink>(
     sink: &mut O,
 ) -> (Option<OpenLoad>, Result<Option<usize>, O::Error>)
     requires { 0 < length bytes.now }
-    ensures { Nexts (state (known S.means warehouse.old) loading buffer.old) offset bytes.now O.Sink sink.old sink.new result.1 (state (known S.means warehouse.new) result.0 buffer.new) }
+    ensures { Nexts S.Store (state warehouse.old loading buffer.old) offset bytes.now O.Sink sink.old sink.new result.1 (state warehouse.new result.0 buffer.new) }
 {
-    let (loading, outcome) = step(warehouse, loading, buffer, bytes, offset);
-    let (line, width) = match outcome {
-        ControlFlow::Continue(Obeyed { line, width }) => (line, Some(width)),
-        ControlFlow::Break(line) => (Some(line), None),
-    };
-    (loading, print(sink, line).map(|()| width))
+    let Stepped {
+        loading,
+        reply,
+        width,
+    } = step(warehouse, loading, buffer, bytes, offset);
+    (loading, print(sink, line_of(reply)).map(|()| width))
 }
 
 // As many commands as the bytes surely hold whole, or all of them if no more bytes come: how many bytes they have, or none
@@ -58,7 +56,7 @@ pub(crate) fn play<S: Store, O: Sink>(
     sink: &mut O,
 ) -> (Option<OpenLoad>, Result<Option<usize>, O::Error>)
     requires { offset + length bytes.now < 2 ^ 64 }
-    ensures { Plays (state (known S.means warehouse.old) loading buffer.old) offset bytes.now last O.Sink sink.old sink.new result.1 (state (known S.means warehouse.new) result.0 buffer.new) }
+    ensures { Plays S.Store (state warehouse.old loading buffer.old) offset bytes.now last O.Sink sink.old sink.new result.1 (state warehouse.new result.0 buffer.new) }
 {
     let mut rest = bytes;
     let mut here = offset;

@@ -1,6 +1,5 @@
 // The pieces of a feed, from its source to its lines.
 ghost use Rattle.std.specs.Prelude.{None};
-ghost use Rattle.warehouse.specs.View.{known};
 ghost use Rattle.console.specs.Playing.{state};
 ghost use Rattle.console.specs.Pumping.{Pumps};
 
@@ -20,7 +19,7 @@ pub(crate) fn pump<S: Store, I: Source, O: Sink>(
     source: &mut I,
     sink: &mut O,
 ) -> (Option<OpenLoad>, Result<(), RunFault<I::Error, O::Error>>)
-    ensures { Pumps (state (known S.means warehouse.old) None buffer.old) I.Source source.old source.new O.Sink sink.old sink.new result.1 (state (known S.means warehouse.new) result.0 buffer.new) }
+    ensures { Pumps S.Store (state warehouse.old None buffer.old) I.Source source.old source.new O.Sink sink.old sink.new result.1 (state warehouse.new result.0 buffer.new) }
 {
     let mut loading = None;
     let mut window = Window::new();

@@ -1,11 +1,10 @@
 -- What a command does to the warehouse, the open load and the buffer, and what it prints.
 --   Reply             a line, or no line, or a refusal with its offset
---   Outcome           the feed goes on past a command, or ends with its last line
+--   said              what a reply prints
+--   Outcome           what is printed of a command, and how many bytes the feed goes on by: none where it ends
 --   Obeys             one command, already decoded
 --   Steps             one command, from the bytes that begin with it
 use Rattle.std.specs.Prelude.{◌≡◌, ℕ, ◌-◌, List, length, ℤ, Some, None, Ok, Err, Option, Result}
-use Rattle.std.specs.declared.ops.ControlFlow.{ControlFlow}
-use Rattle.std.specs.declared.ops.ControlFlow.TheVariants.{Continue, Break}
 use Rattle.warehouse.specs.declared.fault.Refusal.{Refusal}
 use Rattle.warehouse.specs.declared.reading.Reading.{Reading}
 use Rattle.warehouse.specs.Ask.{point_answer, sum_answer, mean_answer}
@@ -23,22 +22,29 @@ use Rattle.feed.specs.declared.fault.Cause.TheVariants.{Decode, Sequence, Wareho
 use Rattle.feed.specs.declared.fault.FeedFault.{FeedFault}
 use Rattle.wire.specs.declared.line.Line.{Line}
 use Rattle.wire.specs.declared.line.Line.TheVariants as line
-use Rattle.feed.specs.declared.obeyed.Obeyed.{Obeyed}
+use Rattle.feed.specs.declared.stepped.Stepped.{Stepped}
 use Rattle.wire.specs.Decode.{decoded}
 use Rattle.feed.specs.Faults.{fault_line}
 
 abbrev pub Reply : Type 0
 Reply = Result (Option Line) FeedFault
 
+abbrev pub said : Reply → Option Line
+said (Ok l) = l
+said (Err f) = Some (fault_line f)
+
 abbrev pub Outcome : Type 0
-Outcome = ControlFlow Line Obeyed
+Outcome = Option Line × Option ℕ
 
 -- the feed goes on: the line of a command, if it prints one, and how many bytes it has
 abbrev pub on : Option Line → ℕ → Outcome
-on l w = Continue (record { line = l; width = w })
+on l w = (l, Some w)
 
 abbrev pub refused : Refusal → ℕ → FeedFault
 refused e o = record { cause = Warehouse e; offset = o }
+
+abbrev pub undecoded : DecodeFault → ℕ → FeedFault
+undecoded f o = record { cause = Decode f; offset = o }
 
 abbrev pub out_of_sequence : ℕ → FeedFault
 out_of_sequence o = record { cause = Sequence; offset = o }
@@ -117,7 +123,7 @@ Obeys v l zs Grow o l' r zs' v' = Raises v o r v' × (l' ≡ l) × (zs' ≡ zs)
 
 -- a byte that is no command, and missing operands, end the feed
 abbrev pub after_fault : FeedFault → Cause → ℕ → Outcome
-after_fault f (Decode d) w = Break (fault_line f)
+after_fault f (Decode d) w = (Some (fault_line f), None)
 after_fault f Sequence w = on (Some (fault_line f)) w
 after_fault f (Warehouse e) w = on (Some (fault_line f)) w
 
@@ -125,13 +131,13 @@ abbrev pub after : Reply → ℕ → Outcome
 after (Ok l) w = on l w
 after (Err f) w = after_fault f f.cause w
 
-abbrev pub StepsBy : Result (Command × List ℕ) DecodeFault → View → Option OpenLoad → List ℤ → List ℕ → ℕ → Option OpenLoad → Outcome → List ℤ → View → Type 0
-StepsBy (Err f) v l zs bs o l' out zs' v' = (out ≡ Break (fault_line (record { cause = Decode f; offset = o }))) × (l' ≡ l) × (zs' ≡ zs) × (v' ≡ v)
-StepsBy (Ok (c, rest)) v l zs bs o l' out zs' v' = (r : Reply) × Obeys v l zs c o l' r zs' v' × (out ≡ after r (length bs - length rest))
+abbrev pub StepsBy : Result (Command × List ℕ) DecodeFault → View → Option OpenLoad → List ℤ → List ℕ → ℕ → Stepped → List ℤ → View → Type 0
+StepsBy (Err f) v l zs bs o s zs' v' = (s.reply ≡ Err (undecoded f o)) × (s.width ≡ None) × (s.loading ≡ l) × (zs' ≡ zs) × (v' ≡ v)
+StepsBy (Ok (c, rest)) v l zs bs o s zs' v' = Obeys v l zs c o s.loading s.reply zs' v' × (s.width ≡ Some (length bs - length rest))
 
 -- one command, from the bytes bs that begin with it, at offset o
-abbrev pub Steps : View → Option OpenLoad → List ℤ → List ℕ → ℕ → Option OpenLoad → Outcome → List ℤ → View → Type 0
-Steps v l zs bs o l' out zs' v' = StepsBy (decoded bs) v l zs bs o l' out zs' v'
+abbrev pub Steps : View → Option OpenLoad → List ℤ → List ℕ → ℕ → Stepped → List ℤ → View → Type 0
+Steps v l zs bs o s zs' v' = StepsBy (decoded bs) v l zs bs o s zs' v'
 
 -- a load that is open at the end of the feed is given up, and its line printed
 abbrev pub ending : Option OpenLoad → Option Line

@@ -1,7 +1,7 @@
-// The console feed: one command after another, to its line.
+// The console feed: one command after another, to its line or its refusal.
 #![tactic(auto)]
 
 pub mod fault;
 mod load;
-pub mod obeyed;
 pub mod run;
+pub mod stepped;

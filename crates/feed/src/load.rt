@@ -2,9 +2,10 @@
 ghost use Rattle.std.specs.Prelude.{◌≡◌, Some, None, Err};
 ghost use Rattle.warehouse.specs.View.{known};
 ghost use Rattle.feed.specs.Step.{Begun, Filled, Finished, refused};
+ghost use Rattle.feed.specs.Whole.{LoadedTo};
 
 use crate::fault::FeedFault;
-use crate::obeyed::Reply;
+use crate::stepped::Reply;
 use loads::loading::begin;
 use loads::open::{OpenLoad, RefusedLoad};
 use store::interface::Store;
@@ -55,6 +56,7 @@ pub(crate) fn finish_load<S: Store>(
     offset: u64,
 ) -> (Option<OpenLoad>, Reply)
     ensures restored { buffer.new ≡ buffer.old }
+    ensures whole { LoadedTo S.means S.puts warehouse.old (Some load) buffer.old offset result.1 warehouse.new }
     ensures finished { Finished (known S.means warehouse.old) (Some load) buffer.old offset result.0 result.1 (known S.means warehouse.new) }
 {
     match load.finish(warehouse, buffer) {

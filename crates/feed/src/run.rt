@@ -1,15 +1,15 @@
 // One command of the feed: decoded, obeyed, answered.
 ghost use Rattle.std.specs.Prelude.{◌≡◌};
 ghost use Rattle.warehouse.specs.View.{known};
-ghost use Rattle.feed.specs.Step.{out_of_sequence, told, after, Obeys, Steps, ending};
+ghost use Rattle.feed.specs.Step.{out_of_sequence, told, Obeys, Steps, ending};
+ghost use Rattle.feed.specs.Whole.{ObeyedTo, SteppedTo};
 
 use crate::fault::{Cause, FeedFault};
 use crate::load::{begin_load, finish_load, take_value};
-use crate::obeyed::{Obeyed, Reply};
+use crate::stepped::{Reply, Stepped};
 use loads::growth::grow;
 use loads::open::OpenLoad;
 use loads::point::add_point;
-use std::ops::ControlFlow;
 use store::interface::Store;
 use warehouse::fault::Refusal;
 use warehouse::record::Warehouse;
@@ -41,7 +41,8 @@ fn obey<S: Store>(
     command: Command,
     offset: u64,
 ) -> (Option<OpenLoad>, Reply)
-    ensures { Obeys (known S.means warehouse.old) loading buffer.old command offset result.0 result.1 buffer.new (known S.means warehouse.new) }
+    ensures whole { ObeyedTo S.means S.puts warehouse.old loading buffer.old command offset result.1 warehouse.new }
+    ensures obeys { Obeys (known S.means warehouse.old) loading buffer.old command offset result.0 result.1 buffer.new (known S.means warehouse.new) }
 {
     let (loading, answer) = match (command, loading) {
         (Command::Begin { level, index }, None) => {
@@ -87,24 +88,8 @@ fn obey<S: Store>(
     (loading, told(answer, offset))
 }
 
-// What a reply leads to: an unknown byte and missing operands end the feed.
-fn after(reply: Reply, width: usize) -> ControlFlow<Line, Obeyed>
-    ensures { result ≡ after reply width }
-{
-    let line = match reply {
-        Ok(line) => line,
-        Err(
-            fault @ FeedFault {
-                cause: Cause::Decode(_),
-                ..
-            },
-        ) => return ControlFlow::Break(Line::from(fault)),
-        Err(fault) => Some(Line::from(fault)),
-    };
-    ControlFlow::Continue(Obeyed { line, width })
-}
-
-// The command at the front of the bytes, which stands at this offset of the feed.
+// The command at the front of the bytes, which stands at this offset of the feed: its line or its refusal, whole, with the offset.
+// Bytes that no command can be read from end the feed and change nothing; after any other refusal it goes on.
 // No struct holds the three: a load cannot be put back behind a `&mut`, and each method would owe that it keeps both loans.
 #[tactic(auto, using(wire::proofs::Rows::shorter))]
 pub fn step<S: Store>(
@@ -113,17 +98,25 @@ pub fn step<S: Store>(
     buffer: &mut [i64],
     bytes: &[u8],
     offset: u64,
-) -> (Option<OpenLoad>, ControlFlow<Line, Obeyed>)
-    ensures { Steps (known S.means warehouse.old) loading buffer.old bytes.now offset result.0 result.1 buffer.new (known S.means warehouse.new) }
+) -> Stepped
+    ensures whole { SteppedTo S.means S.puts warehouse.old loading buffer.old bytes.now offset result.reply warehouse.new }
+    ensures steps { Steps (known S.means warehouse.old) loading buffer.old bytes.now offset result buffer.new (known S.means warehouse.new) }
 {
     // by `let .. else`, by a rule of the project: the step takes the decoded command or leaves
     let decoded = decode(bytes);
     let Ok((command, rest)) = decoded else {
-        let fault = FeedFault::from((decoded.unwrap_err(), offset));
-        return (loading, ControlFlow::Break(Line::from(fault)));
+        return Stepped {
+            loading,
+            reply: Err(FeedFault::from((decoded.unwrap_err(), offset))),
+            width: None,
+        };
     };
     let (loading, reply) = obey(warehouse, loading, buffer, command, offset);
-    (loading, after(reply, bytes.len() - rest.len()))
+    Stepped {
+        loading,
+        reply,
+        width: Some(bytes.len() - rest.len()),
+    }
 }
 
 // A load that is open at the end of the feed is given up, and its line printed.

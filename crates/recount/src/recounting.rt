@@ -23,7 +23,8 @@ fn printed(heap: Global, buffer: &mut [i64], feed: &[u8]) -> anyhow::Result<Page
     let mut source = Bytes::new(feed);
     let mut page = Page::new(heap);
     let store = HoldBack::new(Sparse::new(3, 1024));
-    run(store, 4, buffer, &mut source, &mut page)?;
+    let (_, answer) = run(store, 4, buffer, &mut source, &mut page);
+    answer?;
     Ok(page)
 }
 

@@ -4,12 +4,12 @@ use crate::plain::Deed;
 use compare::comparing::compare;
 use compare::comparison::Comparison;
 use feed::run::{end, step};
+use feed::stepped::Stepped;
 use flat::slice::Flat;
 use holdback::held::HoldBack;
 use loads::growth::grow;
 use loads::point::add_point;
 use std::alloc::{AllocError, Global};
-use std::ops::ControlFlow;
 use store::interface::Store;
 use store::sparse::Sparse;
 use warehouse::record::Warehouse;
@@ -37,15 +37,18 @@ fn play<K: Store>(kept: &mut Warehouse<K>, buffer: &mut [i64], bytes: &[u8]) -> 
     // the commands differ in length, so that no range has their offsets
     while !rest.is_empty() {
         let offset = bytes.len().saturating_sub(rest.len()) as u64;
-        let (next, outcome) = step(kept, loading, buffer, rest, offset);
+        let Stepped {
+            loading: next,
+            reply: _,
+            width,
+        } = step(kept, loading, buffer, rest, offset);
         loading = next;
-        match outcome {
-            ControlFlow::Continue(obeyed) => {
+        match width {
+            Some(width) => {
                 commands = commands.saturating_add(1);
-                let width = obeyed.width.clamp(1, rest.len());
-                rest = &rest[width..];
+                rest = &rest[width.clamp(1, rest.len())..];
             }
-            ControlFlow::Break(_) => rest = &[],
+            None => rest = &[],
         }
     }
     let _ = end(loading);

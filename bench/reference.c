@@ -253,6 +253,58 @@ static int64_t read_range(const struct tree *t, uint32_t from, uint32_t to, int 
     return sum;
 }
 
+/* the sixteen minutes of a tile, each of its cells read once */
+static int read_tile(const struct tree *t, uint32_t tile, int64_t *minutes)
+{
+    minutes[0] = t->cells[sum_cell(t->bands, 4, tile)];
+    if (minutes[0] < -LIMIT || minutes[0] > LIMIT)
+        return 0;
+    for (int j = 4; j > 0; j--)
+        for (uint32_t at = 0; at < 16; at += 1u << j) {
+            int64_t sum = minutes[at], d = t->cells[difference_cell(t->bands, j, (16 * tile + at) >> j)];
+            if (d < -LIMIT || d > LIMIT || (sum + d) % 2 != 0)
+                return 0;
+            minutes[at] = (sum + d) / 2;
+            minutes[at + (1u << (j - 1))] = (sum - d) / 2;
+        }
+    return 1;
+}
+
+/* an array with the largest minute of each tile, and its count of zeros */
+struct index {
+    int64_t *cells, room;
+};
+
+static int64_t most[LARGEST / 16];
+
+/* a chunk of 16 minutes or more, also into the index; no part of this work damages a cell */
+static int load_both(struct tree *t, struct index *x, int level, uint32_t index)
+{
+    int64_t minutes[16], fresh = 0, gone = 0;
+    uint32_t first = index << (level - 4), tiles = 1u << (level - 4);
+    for (uint32_t k = 0; k < tiles; k++) {
+        if (!read_tile(t, first + k, minutes))
+            return 0;
+        most[k] = minutes[0] + values[16 * k];
+        for (int i = 1; i < 16; i++)
+            if (minutes[i] + values[16 * k + i] > most[k])
+                most[k] = minutes[i] + values[16 * k + i];
+        if (most[k] < -LIMIT || most[k] > LIMIT)
+            return 0;
+        fresh += x->cells[first + k] == 0 && most[k] != 0;
+        gone += x->cells[first + k] != 0 && most[k] == 0;
+    }
+    if (fresh > x->room)
+        return 0;
+    int written = load(t, level, index);
+    if (written == 0)
+        return 0;
+    for (uint32_t k = 0; k < tiles; k++)
+        x->cells[first + k] = most[k];
+    x->room += gone - fresh;
+    return written;
+}
+
 /* the same numbers as the benchmark draws */
 static uint64_t state;
 
@@ -278,6 +330,50 @@ static void loads(struct tree *t, int level, uint32_t chunks, int times)
         uint32_t index = draw() % chunks;
         draw_values(level);
         note(load(t, level, index));
+    }
+}
+
+static void loads_both(struct tree *t, struct index *x, int level, uint32_t chunks, int times)
+{
+    for (int i = 0; i < times; i++) {
+        uint32_t index = draw() % chunks;
+        draw_values(level);
+        note(load_both(t, x, level, index));
+    }
+}
+
+static void busiest(struct tree *t, struct index *x, int times)
+{
+    for (int i = 0; i < times; i++) {
+        uint32_t a = draw() % ((1u << t->size) + 1), b = draw() % ((1u << t->size) + 1);
+        uint32_t at = a < b ? a : b, to = a < b ? b : a;
+        int cells = 0;
+        int64_t best = INT64_MIN;
+        while (at < to) {
+            int whole = at % 16 == 0 && at + 16 <= to;
+            int64_t here = whole ? x->cells[at / 16] : read_sum(t, 0, at, &cells);
+            cells += whole;
+            at += whole ? 16 : 1;
+            if (here > best)
+                best = here;
+        }
+        note(best);
+        note(cells);
+    }
+}
+
+static void best_points(struct tree *t, int times)
+{
+    for (int i = 0; i < times; i++) {
+        uint32_t a = draw() % ((1u << t->size) + 1), b = draw() % ((1u << t->size) + 1);
+        int64_t best = INT64_MIN;
+        for (uint32_t at = a < b ? a : b; at < (a < b ? b : a); at++) {
+            int cells = 0;
+            int64_t here = read_sum(t, 0, at, &cells);
+            if (here > best)
+                best = here;
+        }
+        note(best);
     }
 }
 
@@ -355,7 +451,9 @@ int main(int argc, char **argv)
     static struct pile tables = { .held.most = 64, .below.most = 1024 };
     struct tree flat = { 5, 20, calloc(1118480, sizeof(int64_t)), 1118480, NULL };
     struct tree pile = { 3, 12, NULL, 0, &tables };
-    if (!flat.cells)
+    struct tree both = { 5, 20, calloc(1118480, sizeof(int64_t)), 1118480, NULL };
+    struct index index = { calloc(1118480, sizeof(int64_t)), 1118480 };
+    if (!flat.cells || !both.cells || !index.cells)
         return 1;
     begin(); loads(&flat, 6, 1u << 14, 20000); end("flat-loads-6");
     begin(); loads(&flat, 12, 1u << 8, 500); end("flat-loads-12");
@@ -365,5 +463,9 @@ int main(int argc, char **argv)
     begin(); floor_years(&flat); end("flat-floor");
     begin(); loads(&pile, 6, 8, 5000); end("pile-loads-6");
     begin(); sums(&pile, 20000); end("pile-sums");
+    begin(); loads_both(&both, &index, 6, 1u << 14, 20000); end("indexed-loads-6");
+    begin(); loads_both(&both, &index, 12, 1u << 8, 500); end("indexed-loads-12");
+    begin(); busiest(&both, &index, 20); end("busiest");
+    begin(); best_points(&both, 20); end("best-of-points");
     return 0;
 }

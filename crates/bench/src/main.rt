@@ -3,11 +3,14 @@
 #![tactic(auto)]
 
 mod draw;
+mod indexing;
 mod work;
 
 use draw::Draw;
 use flat::slice::Flat;
 use holdback::held::HoldBack;
+use indexed::indexed::Indexed;
+use indexing::{best_points, busiest, indexed_loads};
 use std::env;
 use std::time::Instant;
 use store::interface::Store;
@@ -92,12 +95,51 @@ fn on_pile(rt: &HostRuntime, timed: bool, buffer: &mut [i64]) -> anyhow::Result<
     part(rt, timed, "pile-sums", |draw| sums(&pile, draw, 20_000))
 }
 
+// The same loads as on the flat store, and the busiest minutes of ranges by the index and by points.
+fn on_indexed<S: Store + Drop, I: Store + Drop>(
+    rt: &HostRuntime,
+    timed: bool,
+    first: S,
+    index: I,
+    buffer: &mut [i64],
+) -> anyhow::Result<()> {
+    let mut indexed = Indexed::take_over(first, index, 20);
+    part(
+        rt,
+        timed,
+        "indexed-loads-6",
+        |draw| indexed_loads(&mut indexed, buffer, draw, 6, 1 << 14, 20_000),
+    )?;
+    part(
+        rt,
+        timed,
+        "indexed-loads-12",
+        |draw| indexed_loads(&mut indexed, buffer, draw, 12, 1 << 8, 500),
+    )?;
+    part(rt, timed, "busiest", |draw| busiest(&indexed, draw, 20))?;
+    part(
+        rt,
+        timed,
+        "best-of-points",
+        |draw| best_points(indexed.plain(), draw, 20),
+    )
+}
+
 fn run(rt: &HostRuntime) -> anyhow::Result<()> {
     let timed = env::args(rt)?.nth(1).is_some();
     let mut cells = vec![in rt.alloc(); 0i64; CELLS]?;
     let mut buffer = vec![in rt.alloc(); 0i64; CHUNK]?;
     on_flat(rt, timed, Flat::new(&mut cells), &mut buffer)?;
-    on_pile(rt, timed, &mut buffer)
+    on_pile(rt, timed, &mut buffer)?;
+    let mut first = vec![in rt.alloc(); 0i64; CELLS]?;
+    let mut index = vec![in rt.alloc(); 0i64; CELLS]?;
+    on_indexed(
+        rt,
+        timed,
+        Flat::new(&mut first),
+        Flat::new(&mut index),
+        &mut buffer,
+    )
 }
 
 fn main(rt: HostRuntime) -> anyhow::Result<()> {

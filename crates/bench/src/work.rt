@@ -1,17 +1,41 @@
 // The work that is timed: loads, additions and questions of a warehouse. A refused load counts as 0; no question here is refused.
 use crate::draw::Draw;
 use loads::loading::begin;
-use loads::open::RefusedLoad;
+use loads::open::{OpenLoad, RefusedLoad};
 use loads::point::add_point;
 use store::interface::Store;
 use warehouse::fault::Refusal;
 use warehouse::reading::Reading;
 use warehouse::record::Warehouse;
 
-fn given_up(back: RefusedLoad) -> u32 {
+pub(crate) fn given_up(back: RefusedLoad) -> u32 {
     let RefusedLoad { load, refusal: _ } = back;
     let _ = load.give_up();
     0
+}
+
+// An open load with all its values, which are drawn.
+pub(crate) fn filled<S: Store>(
+    warehouse: &Warehouse<S>,
+    buffer: &mut [i64],
+    draw: &mut Draw,
+    level: u8,
+    index: u32,
+) -> Option<OpenLoad> {
+    let Ok(mut load) = begin(warehouse, level, index) else {
+        return None;
+    };
+    for _ in 0..1u32 << level.min(12) {
+        // by match: either arm hands the load on
+        load = match load.value(buffer, draw.seconds()) {
+            Ok(load) => load,
+            Err(back) => {
+                let _ = given_up(back);
+                return None;
+            }
+        };
+    }
+    Some(load)
 }
 
 fn load<S: Store>(
@@ -21,17 +45,10 @@ fn load<S: Store>(
     level: u8,
     index: u32,
 ) -> u32 {
-    let Ok(mut load) = begin(warehouse, level, index) else {
-        return 0;
-    };
-    for _ in 0..1u32 << level.min(12) {
-        // by match: either arm hands the load on
-        load = match load.value(buffer, draw.seconds()) {
-            Ok(load) => load,
-            Err(back) => return given_up(back),
-        };
+    match filled(warehouse, buffer, draw, level, index) {
+        Some(load) => load.finish(warehouse, buffer).unwrap_or_else(given_up),
+        None => 0,
     }
-    load.finish(warehouse, buffer).unwrap_or_else(given_up)
 }
 
 // Loads of one level at chunks that are drawn.
@@ -76,7 +93,7 @@ pub(crate) fn sums<S: Store>(warehouse: &Warehouse<S>, draw: &mut Draw, times: u
     }
 }
 
-fn note(draw: &mut Draw, answer: Result<Reading, Refusal>) {
+pub(crate) fn note(draw: &mut Draw, answer: Result<Reading, Refusal>) {
     if let Ok(reading) = answer {
         draw.note(reading.value);
         draw.note(i64::from(reading.cells));

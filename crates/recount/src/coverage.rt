@@ -1,4 +1,5 @@
 // Many random feeds recounted, and how often each refusal came in them.
+use crate::busiest::Busiest;
 use crate::draft::Draft;
 use crate::feeds::draw_feed;
 use crate::handover::HandOver;
@@ -22,6 +23,10 @@ pub(crate) struct Coverage {
     pub(crate) handed_over: u64,
     // those in which there was room for one more load
     pub(crate) loaded: u64,
+    // busiest minutes asked for, those answered otherwise than plain minutes say, and feeds after which the indexed warehouses are alike
+    pub(crate) busiest: u64,
+    pub(crate) busiest_differ: u64,
+    pub(crate) indexed_alike: u64,
     // by the refusal's number
     refusals: [u64; 32],
 }
@@ -35,6 +40,9 @@ impl Coverage {
             alike: 0,
             handed_over: 0,
             loaded: 0,
+            busiest: 0,
+            busiest_differ: 0,
+            indexed_alike: 0,
             refusals: [0; 32],
         }
     }
@@ -65,8 +73,17 @@ impl Coverage {
         }
     }
 
+    fn note_busiest(&mut self, busiest: &Busiest) {
+        self.busiest = self.busiest.saturating_add(busiest.asked);
+        self.busiest_differ = self.busiest_differ.saturating_add(busiest.differ);
+        self.indexed_alike = self
+            .indexed_alike
+            .saturating_add(u64::from(busiest.is_alike()));
+    }
+
     fn note(&mut self, feed: u32, recounted: Recounted) {
         self.note_lines(&recounted.expected);
+        self.note_busiest(&recounted.busiest);
         let Recounted { texts, twice, .. } = recounted;
         self.lines = self.lines.saturating_add(texts.lines);
         self.differ = self.differ.saturating_add(texts.differ);

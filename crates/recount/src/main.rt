@@ -2,6 +2,7 @@
 // warehouse with a flat one that had the accepted additions as points. Then the same for a thousand random feeds.
 #![tactic(auto)]
 
+mod busiest;
 mod coefficients;
 mod counts;
 mod coverage;
@@ -19,6 +20,7 @@ mod refusals;
 mod tests;
 mod twice;
 
+use busiest::Busiest;
 use coverage::{Coverage, cover};
 use handover::HandOver;
 use lines::Difference;
@@ -48,6 +50,21 @@ fn report_hand_over(rt: &HostRuntime, handed_over: Option<HandOver>) -> anyhow::
     Ok(())
 }
 
+fn report_busiest(rt: &HostRuntime, busiest: &Busiest) -> anyhow::Result<()> {
+    println!(rt;
+        "an indexed warehouse was asked for the busiest minute of {} ranges, {} differ; beside another, whose points were loads, last first:",
+        busiest.asked, busiest.differ
+    )?;
+    if busiest.refused > 0 {
+        println!(rt; "{} calls were refused there", busiest.refused)?;
+    }
+    println!(rt;
+        "first piles: {}; indexes: {}",
+        busiest.found.first, busiest.found.index
+    )?;
+    Ok(())
+}
+
 fn report(rt: &HostRuntime, recounted: &Recounted) -> anyhow::Result<()> {
     let texts = &recounted.texts;
     let twice = recounted.twice;
@@ -70,7 +87,8 @@ fn report(rt: &HostRuntime, recounted: &Recounted) -> anyhow::Result<()> {
         )?;
     }
     println!(rt; "{}", twice.found)?;
-    report_hand_over(rt, twice.handed_over)
+    report_hand_over(rt, twice.handed_over)?;
+    report_busiest(rt, &recounted.busiest)
 }
 
 fn report_random(rt: &HostRuntime, coverage: &Coverage) -> anyhow::Result<()> {
@@ -89,6 +107,10 @@ fn report_random(rt: &HostRuntime, coverage: &Coverage) -> anyhow::Result<()> {
     println!(rt;
         "after {} audits accept both stores; taken over, with one more load in {}, they share every cell",
         coverage.handed_over, coverage.loaded
+    )?;
+    println!(rt;
+        "{} busiest minutes, {} differ; after {} feeds the two indexed warehouses share every cell",
+        coverage.busiest, coverage.busiest_differ, coverage.indexed_alike
     )?;
     for number in refusals::ALL {
         println!(rt; "refusal {number}: {} times", coverage.of(number))?;

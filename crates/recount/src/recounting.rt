@@ -1,4 +1,5 @@
 // A feed run through the call that gymfeed makes, compared with what plain minutes say of it.
+use crate::busiest::{Busiest, play_indexed};
 use crate::expected::{Expected, expect};
 use crate::lines::{Expectation, Texts, compare_texts};
 use crate::twice::{Twice, play_twice};
@@ -16,6 +17,7 @@ pub(crate) struct Recounted {
     pub(crate) expected: Vec<Expectation>,
     pub(crate) texts: Texts,
     pub(crate) twice: Twice,
+    pub(crate) busiest: Busiest,
 }
 
 // What gymfeed prints of the feed.
@@ -35,6 +37,7 @@ pub(crate) fn recount(heap: Global, feed: &[u8]) -> anyhow::Result<Recounted> {
     Ok(Recounted {
         texts: compare_texts(heap, &lines, page.bytes(), feed.len() as u64)?,
         twice: play_twice(heap, &mut buffer, feed, &deeds)?,
+        busiest: play_indexed(heap, &deeds)?,
         expected: lines,
     })
 }

@@ -9,15 +9,15 @@ use compare::comparing::compare_stores;
 use compare::comparison::Comparison;
 use store::interface::Store;
 
-// What the first piles differ in, and what the indexes do.
+/// What the first piles differ in, and what the indexes do.
 #[derive(Clone, Copy, PartialEq, Eq, Debug)]
 pub struct Comparisons {
     pub first: Comparison,
     pub index: Comparison,
 }
 
-// What two indexed warehouses differ in, if anything. Whatever data they began with and whatever histories brought them here, they agree
-// as the definitions say; and what the contracts of the calls allow are the steps of such histories.
+/// What two indexed warehouses differ in, if anything. Whatever data they began with and whatever histories brought them here, they agree
+/// as the definitions say; and what the contracts of the calls allow are the steps of such histories.
 #[tactic(auto, using(crate::proofs::Steps::steps))]
 pub fn compare<K: Store, A: Store, F: Store, B: Store>(
     kept: &Indexed<K, A>,

@@ -11,7 +11,8 @@ use warehouse::fault::{Asked, Fault, Refusal};
 use warehouse::founding;
 use warehouse::record::Warehouse;
 
-// Whether an indexed warehouse of this size can be founded on the two stores.
+/// Whether an indexed warehouse of this size can be founded on the two stores: refused as 18 or 28 by the first one, as 18 where the
+/// other has not as many bands, and then as 28 by that one.
 pub fn survey<S: Store, I: Store>(first: &S, index: &I, size: u8) -> Result<(), Refusal>
     ensures { Surveys (S.means first.now) (I.means index.now) size result }
 {
@@ -26,7 +27,7 @@ pub fn survey<S: Store, I: Store>(first: &S, index: &I, size: u8) -> Result<(), 
 }
 
 impl<S: Store, I: Store> Indexed<S, I> {
-    // On the two stores, whatever they hold; the size is cut to what the first one's bands can have.
+    /// On the two stores, whatever they hold; the size is cut to what the first one's bands can have.
     pub fn take_over(first: S, index: I, size: u8) -> Indexed<S, I>
         ensures first { result.first.store ≡ first }
         ensures index { result.index.store ≡ index }
@@ -38,7 +39,7 @@ impl<S: Store, I: Store> Indexed<S, I> {
         }
     }
 
-    // The two stores, settled.
+    /// The two stores, settled.
     pub fn close(self) -> (S, I)
         ensures first { Settles (S.means self.first.store) (S.means result.0) }
         ensures index { Settles (I.means self.index.store) (I.means result.1) }

@@ -18,6 +18,7 @@ use store::interface::Store;
 use warehouse::fault::Refusal;
 use warehouse::record::Warehouse;
 
+/// A warehouse with an index: a second store, which may be of another kind, whose cell k holds the largest minute of bottom tile (0, k).
 #[derive(Drop)]
 pub struct Indexed<S: Store, I: Store> {
     pub(crate) first: Warehouse<S>,
@@ -25,14 +26,16 @@ pub struct Indexed<S: Store, I: Store> {
 }
 
 impl<S: Store, I: Store> Indexed<S, I> {
-    // The first pile: for beginning a load, and for the questions of a plain warehouse.
+    /// The first pile: for beginning a load, and for the questions of a plain warehouse (points, sums, means, trends).
     pub fn plain(&self) -> &Warehouse<S>
         ensures { result.now ≡ self.now.first }
     {
         &self.first
     }
 
-    // Finishes an open load; the buffer holds what it held, also where the load comes back.
+    /// Finishes an open load: the count of cells written to the first pile, or the load with the refusal, and then neither pile has
+    /// changed. The first pile's checks come first (25, 15, 21, 14, 19 or 22, 23), then the reading of old minutes (27), then the
+    /// index's (19 or 22, 23). The buffer holds what it held.
     pub fn finish(&mut self, opened: OpenLoad, buffer: &mut [i64]) -> Result<u32, RefusedLoad>
         ensures restored { buffer.new ≡ buffer.old }
         ensures whole { FinishedTo S.means S.puts opened self.old.first buffer.old result self.new.first }
@@ -43,7 +46,7 @@ impl<S: Store, I: Store> Indexed<S, I> {
         opened.finish_beside(&mut self.first, &mut self.index, buffer)
     }
 
-    // Adds to one minute.
+    /// Adds to one minute: a load of level 0.
     pub fn add_point(&mut self, minute: u32, value: i64) -> Result<u32, Refusal>
         ensures added { AddedTo S.means S.puts self.old.first 0 minute (value ∷ []) result self.new.first }
         ensures index { IndexLoaded S.means I.puts self.old 0 minute (value ∷ []) result self.new }
@@ -52,7 +55,7 @@ impl<S: Store, I: Store> Indexed<S, I> {
         add_point_beside(&mut self.first, &mut self.index, minute, value)
     }
 
-    // One level more.
+    /// One level more: the new size, or 24, 22, 23 of the first pile, 27, or 19, 22, 23 of the index.
     pub fn grow(&mut self) -> Result<u8, Refusal>
         ensures whole { GrownTo S.means S.puts self.old.first result self.new.first }
         ensures index { IndexGrown S.means I.puts self.old result self.new }
@@ -61,10 +64,11 @@ impl<S: Store, I: Store> Indexed<S, I> {
         grow_beside(&mut self.first, &mut self.index)
     }
 
-    // Settles both piles.
+    /// Settles both piles.
     pub fn settle(&mut self)
         ensures first { S.settled self.old.first.store self.new.first.store }
         ensures second { I.settled self.old.index.store self.new.index.store }
+        ensures size { self.new.first.asked ≡ self.old.first.asked }
         ensures step { Step (known S.means I.means self.old) (plain settle) settled (known S.means I.means self.new) }
     {
         self.first.settle();

@@ -1,4 +1,6 @@
 // What was accepted of a feed, in two indexed warehouses, and the busiest minutes of ranges that one answers beside those of plain minutes.
+ghost use Rattle.std.specs.Prelude.{◌≤◌};
+
 use crate::counts::cells_read;
 use crate::draft::Chance;
 use crate::plain::Deed;
@@ -53,7 +55,9 @@ fn plain_minutes(heap: Global, deeds: &[Deed]) -> Result<Vec<i64>, AllocError> {
 }
 
 // At most 8, since gymfeed's pile has 3 bands.
-fn growths(deeds: &[Deed]) -> u32 {
+fn growths(deeds: &[Deed]) -> u32
+    ensures { result ≤ 8 }
+{
     let many = deeds.iter().filter(|deed| **deed == Deed::Growth).count();
     many.min(8) as u32
 }
@@ -122,6 +126,16 @@ fn repeat<S: Store, I: Store>(kept: &mut Indexed<S, I>, deed: Deed) -> bool {
     }
 }
 
+// All of them in their order: how many are refused.
+fn repeat_all<S: Store, I: Store>(kept: &mut Indexed<S, I>, deeds: &[Deed]) -> u64 {
+    deeds.iter().filter(|deed| !repeat(kept, **deed)).count() as u64
+}
+
+// So many growths: how many are refused.
+fn grow_all<S: Store, I: Store>(fresh: &mut Indexed<S, I>, times: u32) -> u64 {
+    (0..times).filter(|_| fresh.grow().is_err()).count() as u64
+}
+
 fn given_up(back: RefusedLoad) -> bool {
     let RefusedLoad { load, refusal: _ } = back;
     let _ = load.give_up();
@@ -156,30 +170,17 @@ fn load_back<S: Store, I: Store>(fresh: &mut Indexed<S, I>, deeds: &[Deed]) -> u
     refused
 }
 
-// The deeds in their order on a layer over a flat store, with a sparse index; and, from size 0 on, all growths and then all loads on a
-// flat store, with a layer over a flat store as index.
+// The deeds in their order on a flat store, with a sparse index; and, from size 0 on, all growths and then all loads on a flat store,
+// with a layer over a sparse one as index.
 pub(crate) fn play_indexed(heap: Global, deeds: &[Deed]) -> Result<Busiest, AllocError> {
     let mut numbers = vec![in heap; 0i64; CELLS]?;
     let mut other_numbers = vec![in heap; 0i64; CELLS]?;
-    let mut index_numbers = vec![in heap; 0i64; CELLS]?;
     let minutes = plain_minutes(heap, deeds)?;
-    let mut kept = Indexed::take_over(
-        HoldBack::new(Flat::new(&mut numbers)),
-        Sparse::new(3, 1024),
-        4,
-    );
-    let mut fresh = Indexed::take_over(
-        Flat::new(&mut other_numbers),
-        HoldBack::new(Flat::new(&mut index_numbers)),
-        0,
-    );
-    let refused = deeds
-        .iter()
-        .filter(|deed| !repeat(&mut kept, **deed))
-        .count() as u64;
-    let stuck = (0..growths(deeds).saturating_add(4))
-        .filter(|_| fresh.grow().is_err())
-        .count() as u64;
+    let mut kept = Indexed::take_over(Flat::new(&mut numbers), Sparse::new(3, 1024), 4);
+    let layer = HoldBack::new(Sparse::new(3, 1024));
+    let mut fresh = Indexed::take_over(Flat::new(&mut other_numbers), layer, 0);
+    let refused = repeat_all(&mut kept, deeds);
+    let stuck = grow_all(&mut fresh, growths(deeds).saturating_add(4));
     let lost = load_back(&mut fresh, deeds);
     Ok(Busiest {
         asked: u64::from(RANGES),

@@ -1,5 +1,5 @@
 -- A session from its first poll on, and a whole one.
-use Rattle.std.proofs.Common.{◌≡◌, ◌≢◌, ℕ, zero, suc, ◌+◌, ◌⊎◌, inl, inr, List, [], ◌∷◌, ◌++◌, length, Option, Some, None, ℤ, Ok, Err, Result, refl, sym, ◌∙◌, ap, subst, arith, append-nil}
+use Rattle.std.proofs.Common.{◌≡◌, ◌≢◌, ℕ, zero, suc, ◌⊎◌, inl, inr, List, [], ◌∷◌, ◌++◌, None, ℤ, Ok, Err, Result, refl, sym, ◌∙◌, ap, subst, arith, append-nil}
 use Rattle.std.specs.Prelude.{slice_get, nat_eq}
 use Rattle.std.proofs.lemmas.Bool.{cond-true, cond-false}
 use Rattle.std.proofs.lemmas.Bool.Decides.{eqb_tells}
@@ -11,9 +11,8 @@ use Rattle.link.specs.Meaning.{Waiting, IsMoved, meaning_of}
 use Rattle.link.specs.Waiting.{FirstByte, ReadyAt, FailsAt, ready_byte}
 use Rattle.console.specs.declared.ends.Sink as sink
 use Rattle.console.specs.declared.fault.RunFault.{RunFault}
-use Rattle.console.specs.declared.fault.RunFault.TheVariants.{Founding, Input, Output, Long}
-use Rattle.linkfeed.specs.Feeding.{HalfFed}
-use Rattle.linkfeed.specs.Session.{Outcome, Comes, Half, HasFeed, Says, Hands, Serves, Greeted, Greets, Plays, refused, served, greeted, refused_line, welcome_line, whole}
+use Rattle.console.specs.declared.fault.RunFault.TheVariants.{Output}
+use Rattle.linkfeed.specs.Session.{Outcome, Comes, Half, HasFeed, Says, Hands, Serves, Greeted, Greets, Plays, refused, served, greeted, refused_line, welcome_line}
 use Rattle.linkfeed.proofs.Sessions.{same_byte, only_piece, fails_of, then}
 
 -- a captured line's first byte comes at its first poll

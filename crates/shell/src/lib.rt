@@ -1,0 +1,6 @@
+//! Lines of text between a person, or a program, and a warehouse: commands read, and answers written.
+#![tactic(auto)]
+
+pub mod answer;
+pub mod command;
+pub mod wrong;

@@ -3,4 +3,5 @@
 
 pub mod answer;
 pub mod command;
+mod words;
 pub mod wrong;

@@ -1,4 +1,7 @@
 //! Why a line is no command that can be obeyed, and where.
+ghost use Rattle.std.specs.Prelude.{◌≡◌};
+ghost use Rattle.shell.specs.declared.wrong.Unread.TheVariants.{Misread, Memory};
+
 use std::alloc::AllocError;
 use thiserror::Error;
 
@@ -72,4 +75,34 @@ pub enum LineFault {
     /// Memory is wanting.
     #[error(transparent)]
     Memory(AllocError),
+}
+
+// How many bytes of the line were to come, from the wrong word on, and what is wrong there.
+#[derive(Clone, Copy, PartialEq, Eq, Debug)]
+pub(crate) struct Misread {
+    pub(crate) left: usize,
+    pub(crate) why: Why,
+}
+
+// Why words are not read.
+#[derive(Clone, Copy, PartialEq, Eq, Debug)]
+pub(crate) enum Unread {
+    Misread(Misread),
+    Memory(AllocError),
+}
+
+impl From<Misread> for Unread {
+    ghost from_gives = { λ e r. r ≡ Misread e };
+
+    fn from(misread: Misread) -> Unread {
+        Unread::Misread(misread)
+    }
+}
+
+impl From<AllocError> for Unread {
+    ghost from_gives = { λ e r. r ≡ Memory e };
+
+    fn from(error: AllocError) -> Unread {
+        Unread::Memory(error)
+    }
 }

@@ -1,0 +1,125 @@
+-- What a line says: a command, nothing, or the column of its first wrong word, and why it is wrong.
+--
+-- Said         a command with the values or bytes of its list; `said c` is that of the command c
+-- none, one, two       a command of no operand, of one, or of two
+-- rows         the table: each command's name, and how the words after it are read
+-- command_at   the command that the next words say, by the first of the rows that has their name
+-- command_of   the same, where no further word may come
+-- line_of      what a line says
+use Rattle.std.specs.Prelude.{ℕ, ◌+◌, ◌-◌, Bool, cond, ◌||◌, List, [], ◌∷◌, length, ℤ, Some, None, Ok, Err, Option, Result, ◌==◌, slice_index, codes}
+use Rattle.std.specs.Str.{bytes_eq}
+use Rattle.shell.specs.declared.command.Command.{Command}
+use Rattle.shell.specs.declared.command.Command.TheVariants.{Flat, Sparse, Layer, Write, Read, Store, First, Second, Compare, Survey, Found, Take, Audit, Close, Size, Add, Load, Grow, Settle, Point, Sum, Mean, Busiest, Trend, Cells, Line, Ring, Put, Welcome, Begin, Next, End, Replied, Help}
+use Rattle.shell.specs.declared.wrong.Why.{Why}
+use Rattle.shell.specs.declared.wrong.Why.TheVariants.{Name, Surplus}
+use Rattle.shell.specs.declared.wrong.Wrong.{Wrong}
+use Rattle.shell.specs.declared.wrong.Misread.{Misread}
+use Rattle.shell.specs.Words.{misread, begun, word, after, band_count, byte, half, number, value, hex_bytes, ◌>>=◌, field_of, last_of, values_of}
+
+pub data Said : Type 0 where
+  plain : Command → Said
+  load : ℕ → ℕ → List ℤ → Said
+  line : List ℕ → Said
+  put : List ℕ → Said
+
+abbrev pub said : Command → Said
+said (Load level index values) = load level index values.items
+said (Line bytes) = line bytes.items
+said (Put bytes) = put bytes.items
+said c = plain c
+
+abbrev pub none : Command → List ℕ → Result (Said × List ℕ) Misread
+none command bs = Ok (plain command, bs)
+
+abbrev pub one : {A : Type 0} → (List ℕ → Result A Why) → (A → Command) → List ℕ → Result (Said × List ℕ) Misread
+one read make bs = field_of read bs >>= λ p. Ok (plain (make p.0), p.1)
+
+abbrev pub two : {A B : Type 0} → (List ℕ → Result A Why) → (List ℕ → Result B Why) → (A → B → Command) → List ℕ → Result (Said × List ℕ) Misread
+two read then make bs = field_of read bs >>= λ p. field_of then p.1 >>= λ q. Ok (plain (make p.0 q.0), q.1)
+
+abbrev pub hex : (List ℕ → Said) → List ℕ → Result (Said × List ℕ) Misread
+hex make bs = last_of hex_bytes bs >>= λ p. Ok (make p.0, p.1)
+
+abbrev pub whole_load : List ℕ → Result (Said × List ℕ) Misread
+whole_load bs =
+    field_of byte bs >>= λ p. field_of number p.1 >>= λ q. values_of value q.1 >>= λ r. Ok (load p.0 q.0 r.0, r.1)
+
+pub record Row : Type 0 where
+  pub name : List ℕ
+  pub operands : List ℕ → Result (Said × List ℕ) Misread
+
+abbrev pub row : List ℕ → (List ℕ → Result (Said × List ℕ) Misread) → Row
+row n o = record { name = n; operands = o }
+
+abbrev pub rows : List Row
+rows =
+    row (codes "flat") (one band_count Flat)
+    ∷ row (codes "sparse") (two byte half Sparse)
+    ∷ row (codes "layer") (none Layer)
+    ∷ row (codes "write") (two number value Write)
+    ∷ row (codes "read") (one number Read)
+    ∷ row (codes "store") (none Store)
+    ∷ row (codes "first") (none First)
+    ∷ row (codes "second") (none Second)
+    ∷ row (codes "compare") (none Compare)
+    ∷ row (codes "survey") (one byte Survey)
+    ∷ row (codes "found") (one byte Found)
+    ∷ row (codes "take") (one byte Take)
+    ∷ row (codes "audit") (one byte Audit)
+    ∷ row (codes "close") (none Close)
+    ∷ row (codes "size") (none Size)
+    ∷ row (codes "add") (two number value Add)
+    ∷ row (codes "load") whole_load
+    ∷ row (codes "grow") (none Grow)
+    ∷ row (codes "settle") (none Settle)
+    ∷ row (codes "point") (one number Point)
+    ∷ row (codes "sum") (two number number Sum)
+    ∷ row (codes "mean") (two number number Mean)
+    ∷ row (codes "busiest") (two number number Busiest)
+    ∷ row (codes "trend") (two byte number Trend)
+    ∷ row (codes "cells") (none Cells)
+    ∷ row (codes "line") (hex line)
+    ∷ row (codes "ring") (none Ring)
+    ∷ row (codes "put") (hex put)
+    ∷ row (codes "welcome") (none Welcome)
+    ∷ row (codes "begin") (none Begin)
+    ∷ row (codes "next") (none Next)
+    ∷ row (codes "end") (none End)
+    ∷ row (codes "replied") (none Replied)
+    ∷ row (codes "help") (none Help)
+    ∷ []
+
+abbrev pub command_by : List Row → List ℕ → Result (Said × List ℕ) Misread
+command_by [] bs = Err (misread (length (begun bs)) Name)
+command_by (r ∷ rs) bs = cond (bytes_eq (word bs) r.name) (r.operands (after bs)) (command_by rs bs)
+
+abbrev pub command_at : List ℕ → Result (Said × List ℕ) Misread
+command_at bs = command_by rows bs
+
+-- no further word may come
+abbrev pub done : {A : Type 0} → A × List ℕ → Result A Misread
+done p = cond (length (begun p.1) == 0) (Ok p.0) (Err (misread (length (begun p.1)) Surplus))
+
+abbrev pub command_of : List ℕ → Result Said Misread
+command_of bs = command_at bs >>= done
+
+-- lines
+
+pub record Told : Type 0 where
+  pub column : ℕ
+  pub said : Said
+
+-- counted in bytes from 1
+abbrev pub column : List ℕ → ℕ → ℕ
+column l left = 1 + (length l - left)
+
+abbrev pub told : List ℕ → Result Said Misread → Result (Option Told) Wrong
+told l (Ok s) = Ok (Some (record { column = column l (length (begun l)); said = s }))
+told l (Err m) = Err (record { column = column l m.left; why = m.why })
+
+-- blanks alone, or a remark
+abbrev pub is_silent : List ℕ → Bool
+is_silent l = length (begun l) == 0 || slice_index (begun l) 0 == 35
+
+abbrev pub line_of : List ℕ → Result (Option Told) Wrong
+line_of l = cond (is_silent l) (Ok None) (told l (command_of l))

@@ -14,7 +14,7 @@ use Rattle.shell.specs.declared.wrong.Why.{Why}
 use Rattle.shell.specs.declared.wrong.Why.TheVariants.{Name, Surplus}
 use Rattle.shell.specs.declared.wrong.Wrong.{Wrong}
 use Rattle.shell.specs.declared.wrong.Misread.{Misread}
-use Rattle.shell.specs.Words.{misread, begun, word, after, band_count, byte, half, number, value, hex_bytes, ◌>>=◌, field_of, last_of, values_of}
+use Rattle.shell.specs.Words.{misread, begun, word, after, banded, byte, half, number, value, hex_bytes, ◌>>=◌, field_of, last_of, values_of}
 
 pub data Said : Type 0 where
   plain : Command → Said
@@ -53,7 +53,7 @@ row n o = record { name = n; operands = o }
 
 abbrev pub rows : List Row
 rows =
-    row (codes "flat") (one band_count Flat)
+    row (codes "flat") (one banded (λ bands. Flat bands.count))
     ∷ row (codes "sparse") (two byte half Sparse)
     ∷ row (codes "layer") (none Layer)
     ∷ row (codes "write") (two number value Write)

@@ -4,7 +4,8 @@
 -- begun bs              the bytes from the next word on
 -- word bs, after bs     the next word, empty where none comes, and the bytes after it
 -- numeral limit w       the number that the word w is in decimal, if it is below the limit
--- band_count, byte, half, number    the same for bands and at 8, 16 and 32 bits
+-- byte, half, number    the same at 8, 16 and 32 bits
+-- banded w              the same of a flat store's bands, 5 at most
 -- value w               the same of a 64-bit number with a minus sign or none
 -- hex_bytes w           the bytes of a word of hex pairs; of an empty word, none
 -- field_of read bs      what `read` makes of the next word, and the bytes after it
@@ -19,6 +20,7 @@ use Rattle.hex.specs.declared.error.FromHexError.{FromHexError}
 use Rattle.shell.specs.declared.wrong.Why.{Why}
 use Rattle.shell.specs.declared.wrong.Why.TheVariants.{Missing, NotNumber, TooLarge, NotHex}
 use Rattle.shell.specs.declared.wrong.Misread.{Misread}
+use Rattle.shell.specs.declared.words.Bands.{Bands}
 
 abbrev pub misread : ℕ → Why → Misread
 misread left why = record { left = left; why = why }
@@ -43,9 +45,6 @@ is_numeral w = nat_lt 0 (length w) && list_all is_ascii_digit w
 abbrev pub numeral : ℕ → List ℕ → Result ℕ Why
 numeral limit w = cond (is_numeral w) (cond (nat_lt (digits_value 10 w) limit) (Ok (digits_value 10 w)) (Err TooLarge)) (Err NotNumber)
 
-abbrev pub band_count : List ℕ → Result ℕ Why
-band_count w = numeral 6 w
-
 abbrev pub byte : List ℕ → Result ℕ Why
 byte w = numeral (2 ^ 8) w
 
@@ -58,6 +57,9 @@ number w = numeral (2 ^ 32) w
 abbrev pub map_ok : {A B E : Type 0} → (A → B) → Result A E → Result B E
 map_ok f (Ok x) = Ok (f x)
 map_ok f (Err e) = Err e
+
+abbrev pub banded : List ℕ → Result Bands Why
+banded w = map_ok (λ n. record { count = n }) (numeral 6 w)
 
 abbrev pub value : List ℕ → Result ℤ Why
 value w = cond (slice_index w 0 == 45) (map_ok (λ n. neg_ℤ (pos n)) (numeral (2 ^ 63 + 1) (drop 1 w))) (map_ok pos (numeral (2 ^ 63) w))
@@ -82,7 +84,7 @@ read_as bs (Ok x) = Ok (x, after bs)
 read_as bs (Err why) = Err (misread (length (begun bs)) why)
 
 abbrev pub field_of : {A : Type 0} → (List ℕ → Result A Why) → List ℕ → Result (A × List ℕ) Misread
-field_of read bs = read_as bs (cond (length (word bs) == 0) (Err Missing) (read (word bs)))
+field_of read bs = read_as bs (cond (length (begun bs) == 0) (Err Missing) (read (word bs)))
 
 -- a word, or none
 abbrev pub last_of : {A : Type 0} → (List ℕ → Result A Why) → List ℕ → Result (A × List ℕ) Misread
@@ -92,7 +94,7 @@ last_of read bs = read_as bs (read (word bs))
 unfoldable pub values : {A : Type 0} → (List ℕ → Result A Why) → ℕ → List ℕ → Result (List A × List ℕ) Misread
 values read zero bs = Ok ([], bs)
 values read (suc k) bs =
-    cond (length (word bs) == 0) (Ok ([], bs)) (field_of read bs >>= λ p. values read k p.1 >>= λ q. Ok (p.0 ∷ q.0, q.1))
+    cond (length (begun bs) == 0) (Ok ([], bs)) (field_of read bs >>= λ p. values read k p.1 >>= λ q. Ok (p.0 ∷ q.0, q.1))
 
 abbrev pub values_of : {A : Type 0} → (List ℕ → Result A Why) → List ℕ → Result (List A × List ℕ) Misread
 values_of read bs = values read (length bs) bs

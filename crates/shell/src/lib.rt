@@ -3,5 +3,6 @@
 
 pub mod answer;
 pub mod command;
+mod reading;
 mod words;
 pub mod wrong;

@@ -1,6 +1,6 @@
 //! The words of a line, and what each stands for.
 ghost use Rattle.std.specs.Prelude.{◌≡◌, ℕ, not, List, length, position, Result};
-ghost use Rattle.shell.specs.Words.{blank, word, after, begun, byte, half, number, value, hex_bytes, field_of, last_of};
+ghost use Rattle.shell.specs.Words.{blank, word, after, begun, byte, half, number, value, hex_bytes, field_of, last_of, values_of};
 ghost use Rattle.shell.specs.Reading.{capped, Reads, ReadsList};
 ghost use Rattle.shell.specs.declared.wrong.Why.{Why};
 
@@ -32,6 +32,12 @@ fn read_number(digits: &[u8]) -> Result<u64, Why>
     Ok(n)
 }
 
+// A number of bands that a flat store can have.
+#[derive(Clone, Copy)]
+pub(crate) struct Bands {
+    pub(crate) count: u8,
+}
+
 // What a word stands for.
 pub(crate) trait FieldValue {
     ghost of_word: { List ℕ → Result Self Why };
@@ -45,6 +51,19 @@ impl FieldValue for u8 {
 
     fn read(word: &[u8]) -> Result<u8, Why> {
         u8::try_from(read_number(word)?).map_err(|_| Why::TooLarge)
+    }
+}
+
+impl FieldValue for Bands {
+    ghost use Rattle.shell.specs.Words.{banded};
+
+    ghost of_word = { banded };
+
+    fn read(word: &[u8]) -> Result<Bands, Why> {
+        match u8::read(word)? {
+            count @ 0..=5 => Ok(Bands { count }),
+            _ => Err(Why::TooLarge),
+        }
     }
 }
 
@@ -129,14 +148,13 @@ impl<'a> Words<'a> {
         ensures { Reads (field_of T.of_word self.old.rest.now) result self.new.rest.now }
     {
         let left = self.left();
-        let word = self.take_word();
-        if word.is_empty() {
+        if left == 0 {
             return Err(Misread {
                 left,
                 why: Why::Missing,
             });
         }
-        let value = T::read(word).map_err(|why| Misread { left, why })?;
+        let value = T::read(self.take_word()).map_err(|why| Misread { left, why })?;
         Ok(value)
     }
 
@@ -155,5 +173,17 @@ impl<'a> Words<'a> {
             .into(),
         })?;
         Ok(bytes)
+    }
+
+    // Takes each word that still comes for a value.
+    pub(crate) fn take_values(&mut self, heap: Global) -> Result<Vec<i64>, Unread>
+        ensures { ReadsList (values_of value self.old.rest.now) result self.new.rest.now }
+    {
+        let mut values = Vec::new(heap);
+        'values: while self.left() > 0 {
+            let value = self.take()?;
+            values.push(value).map_err(AllocError::from)?;
+        }
+        Ok(values)
     }
 }

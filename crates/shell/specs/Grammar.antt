@@ -2,18 +2,20 @@
 --
 -- Said         a command with the values or bytes of its list; `said c` is that of the command c
 -- none, one, two       a command of no operand, of one, or of two
--- rows         the table: each command's name, and how the words after it are read
--- command_at   the command that the next words say, by the first of the rows that has their name
+-- operands v   the table: how the words after the word of the command v are read
+-- command_at   the command that the next words say
 -- command_of   the same, where no further word may come
 -- line_of      what a line says
-use Rattle.std.specs.Prelude.{ℕ, ◌+◌, ◌-◌, Bool, cond, ◌||◌, List, [], ◌∷◌, length, ℤ, Some, None, Ok, Err, Option, Result, ◌==◌, slice_index, codes}
-use Rattle.std.specs.Str.{bytes_eq}
+use Rattle.std.specs.Prelude.{ℕ, ◌+◌, ◌-◌, Bool, cond, ◌||◌, List, [], ◌∷◌, length, ℤ, Some, None, Ok, Err, Option, Result, ◌==◌, slice_index}
 use Rattle.shell.specs.declared.command.Command.{Command}
 use Rattle.shell.specs.declared.command.Command.TheVariants.{Flat, Sparse, Layer, Write, Read, Store, First, Second, Compare, Survey, Found, Take, Audit, Close, Size, Add, Load, Grow, Settle, Point, Sum, Mean, Busiest, Trend, Cells, Line, Ring, Put, Welcome, Begin, Next, End, Replied, Help}
 use Rattle.shell.specs.declared.wrong.Why.{Why}
 use Rattle.shell.specs.declared.wrong.Why.TheVariants.{Name, Surplus}
 use Rattle.shell.specs.declared.wrong.Wrong.{Wrong}
 use Rattle.shell.specs.declared.wrong.Misread.{Misread}
+use Rattle.shell.specs.declared.verb.Verb.{Verb}
+use Rattle.shell.specs.declared.verb.Verb.TheVariants as verb
+use Rattle.shell.specs.Verbs.{verb_of}
 use Rattle.shell.specs.Words.{misread, begun, word, after, banded, byte, half, number, value, hex_bytes, ◌>>=◌, field_of, last_of, values_of}
 
 pub data Said : Type 0 where
@@ -44,57 +46,49 @@ abbrev pub whole_load : List ℕ → Result (Said × List ℕ) Misread
 whole_load bs =
     field_of byte bs >>= λ p. field_of number p.1 >>= λ q. values_of value q.1 >>= λ r. Ok (load p.0 q.0 r.0, r.1)
 
-pub record Row : Type 0 where
-  pub name : List ℕ
-  pub operands : List ℕ → Result (Said × List ℕ) Misread
+-- how the words after a command's own are read
+abbrev pub operands : Verb → List ℕ → Result (Said × List ℕ) Misread
+operands verb.Flat = one banded (λ bands. Flat bands.count)
+operands verb.Sparse = two byte half Sparse
+operands verb.Layer = none Layer
+operands verb.Write = two number value Write
+operands verb.Read = one number Read
+operands verb.Store = none Store
+operands verb.First = none First
+operands verb.Second = none Second
+operands verb.Compare = none Compare
+operands verb.Survey = one byte Survey
+operands verb.Found = one byte Found
+operands verb.Take = one byte Take
+operands verb.Audit = one byte Audit
+operands verb.Close = none Close
+operands verb.Size = none Size
+operands verb.Add = two number value Add
+operands verb.Load = whole_load
+operands verb.Grow = none Grow
+operands verb.Settle = none Settle
+operands verb.Point = one number Point
+operands verb.Sum = two number number Sum
+operands verb.Mean = two number number Mean
+operands verb.Busiest = two number number Busiest
+operands verb.Trend = two byte number Trend
+operands verb.Cells = none Cells
+operands verb.Line = hex line
+operands verb.Ring = none Ring
+operands verb.Put = hex put
+operands verb.Welcome = none Welcome
+operands verb.Begin = none Begin
+operands verb.Next = none Next
+operands verb.End = none End
+operands verb.Replied = none Replied
+operands verb.Help = none Help
 
-abbrev pub row : List ℕ → (List ℕ → Result (Said × List ℕ) Misread) → Row
-row n o = record { name = n; operands = o }
-
-abbrev pub rows : List Row
-rows =
-    row (codes "flat") (one banded (λ bands. Flat bands.count))
-    ∷ row (codes "sparse") (two byte half Sparse)
-    ∷ row (codes "layer") (none Layer)
-    ∷ row (codes "write") (two number value Write)
-    ∷ row (codes "read") (one number Read)
-    ∷ row (codes "store") (none Store)
-    ∷ row (codes "first") (none First)
-    ∷ row (codes "second") (none Second)
-    ∷ row (codes "compare") (none Compare)
-    ∷ row (codes "survey") (one byte Survey)
-    ∷ row (codes "found") (one byte Found)
-    ∷ row (codes "take") (one byte Take)
-    ∷ row (codes "audit") (one byte Audit)
-    ∷ row (codes "close") (none Close)
-    ∷ row (codes "size") (none Size)
-    ∷ row (codes "add") (two number value Add)
-    ∷ row (codes "load") whole_load
-    ∷ row (codes "grow") (none Grow)
-    ∷ row (codes "settle") (none Settle)
-    ∷ row (codes "point") (one number Point)
-    ∷ row (codes "sum") (two number number Sum)
-    ∷ row (codes "mean") (two number number Mean)
-    ∷ row (codes "busiest") (two number number Busiest)
-    ∷ row (codes "trend") (two byte number Trend)
-    ∷ row (codes "cells") (none Cells)
-    ∷ row (codes "line") (hex line)
-    ∷ row (codes "ring") (none Ring)
-    ∷ row (codes "put") (hex put)
-    ∷ row (codes "welcome") (none Welcome)
-    ∷ row (codes "begin") (none Begin)
-    ∷ row (codes "next") (none Next)
-    ∷ row (codes "end") (none End)
-    ∷ row (codes "replied") (none Replied)
-    ∷ row (codes "help") (none Help)
-    ∷ []
-
-abbrev pub command_by : List Row → List ℕ → Result (Said × List ℕ) Misread
-command_by [] bs = Err (misread (length (begun bs)) Name)
-command_by (r ∷ rs) bs = cond (bytes_eq (word bs) r.name) (r.operands (after bs)) (command_by rs bs)
+abbrev pub command_by : List ℕ → Option Verb → Result (Said × List ℕ) Misread
+command_by bs (Some v) = operands v (after bs)
+command_by bs None = Err (misread (length (begun bs)) Name)
 
 abbrev pub command_at : List ℕ → Result (Said × List ℕ) Misread
-command_at bs = command_by rows bs
+command_at bs = command_by bs (verb_of (word bs))
 
 -- no further word may come
 abbrev pub done : {A : Type 0} → A × List ℕ → Result A Misread

@@ -4,5 +4,6 @@
 pub mod answer;
 pub mod command;
 mod reading;
+mod verb;
 mod words;
 pub mod wrong;

@@ -20,7 +20,7 @@ pub returns : goal.returns
 returns c = taken_all value _ _ _ c.values.invariant (omega (arith, c.left.ensures, c.values-test.false))
 
 pub returns-in_err-value : goal.returns-in_err-value
-returns-in_err-value c = 
+returns-in_err-value c =
     let some : 0 < length (begun c.values.self.rest.now) = omega (arith, c.left.ensures, c.values-test.true) in
     let is : c.from_residual.result ≡ Err (Misread c.in_err-value.field-0.0) = search (rules, tests) in
     rw is (taken_refused value _ _ _ c.values.invariant _ some c.in_err-value.ensures)

@@ -3,6 +3,7 @@
 
 pub mod answer;
 pub mod command;
+pub mod line;
 mod reading;
 mod verb;
 mod words;

@@ -1,6 +1,6 @@
 //! A command, read from the words of a line.
-ghost use Rattle.shell.specs.Grammar.{operands, command_at};
-ghost use Rattle.shell.specs.Reading.{ReadsCommand};
+ghost use Rattle.shell.specs.Grammar.{operands, command_at, command_of};
+ghost use Rattle.shell.specs.Reading.{ReadsCommand, ReadsWhole};
 
 use crate::command::Command;
 use crate::verb::{Verb, verb_of};
@@ -106,4 +106,20 @@ pub(crate) fn take_command(words: &mut Words, heap: Global) -> Result<Command, U
         }
         .into()),
     }
+}
+
+// The command that all of the words say.
+pub(crate) fn whole_command(words: &mut Words, heap: Global) -> Result<Command, Unread>
+    ensures { ReadsWhole (command_of words.old.rest.now) result }
+{
+    let command = take_command(words, heap)?;
+    let left = words.left();
+    if left > 0 {
+        return Err(Misread {
+            left,
+            why: Why::Surplus,
+        }
+        .into());
+    }
+    Ok(command)
 }

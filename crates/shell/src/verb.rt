@@ -134,5 +134,5 @@ impl Verb {
 pub(crate) fn verb_of(word: &[u8]) -> Option<Verb>
     ensures { result ≡ verb_of word.now }
 {
-    VERBS.into_iter().find(|verb| verb.is_named(word))
+    VERBS.iter().copied().find(|verb| verb.is_named(word))
 }

@@ -116,7 +116,7 @@ fn first_letter(bytes: &[u8]) -> Option<usize>
 }
 
 // The bytes from the first word on.
-fn from_word(bytes: &[u8]) -> &[u8]
+pub(crate) fn from_word(bytes: &[u8]) -> &[u8]
     ensures { result.now ≡ begun bytes.now }
 {
     let blanks = first_letter(bytes).unwrap_or(bytes.len());

@@ -1,10 +1,14 @@
 //! What the shell answers.
+ghost use Rattle.std.specs.Prelude.{◌≡◌, Some};
+ghost use Rattle.shell.specs.Faults.{refused_number, refused_words};
+
 use crate::wrong::Wrong;
 use compare::comparison::Comparison;
 use haar::trend::Trend;
 use link::fault::Fault as LinkFault;
+use std::fmt;
 use store::fault::CellFault;
-use warehouse::fault::Refusal;
+use warehouse::fault::{Fault, Refusal};
 use warehouse::reading::Reading;
 
 /// A refusal of the library, by the call that refused.
@@ -16,6 +20,33 @@ pub enum Refused {
     Warehouse(Refusal),
     /// A Welcome is refused.
     Link(LinkFault),
+}
+
+impl Refused {
+    /// The number of the rules.
+    pub fn number(self) -> u8
+        ensures { result ≡ refused_number self }
+    {
+        match self {
+            Refused::Cell(fault) => fault.number(),
+            Refused::Warehouse(refusal) => refusal.fault.number(),
+            Refused::Link(fault) => fault.number(),
+        }
+    }
+}
+
+impl fmt::Display for Refused {
+    ghost output = { λ refused. Some (refused_words refused) };
+
+    fn fmt<W: fmt::Write>(&self, f: &mut fmt::Formatter<W>) -> fmt::Result {
+        match self {
+            Refused::Cell(fault) => write!(f, "{}", Fault::Cell(*fault)),
+            Refused::Warehouse(refusal) => write!(f, "{refusal}"),
+            // by hand: the words that the link gives have no contract
+            Refused::Link(LinkFault::NoMotor) => write!(f, "No motor"),
+            Refused::Link(LinkFault::Line) => write!(f, "Line"),
+        }
+    }
 }
 
 /// One line of an answer; `Help` is a line for each command.

@@ -1,70 +1,92 @@
 //! Why a line is no command that can be obeyed, and where.
-ghost use Rattle.std.specs.Prelude.{◌≡◌};
+ghost use Rattle.std.specs.Prelude.{◌≡◌, Some};
+ghost use Rattle.shell.specs.Faults.{why_words, wrong_words};
 ghost use Rattle.shell.specs.declared.wrong.Unread.TheVariants.{Misread, Memory};
 
 use std::alloc::AllocError;
+use std::fmt;
 use thiserror::Error;
 
 /// Why a word is wrong, or why a command is not allowed now.
-#[derive(Clone, Copy, PartialEq, Eq, Debug, Error)]
+#[derive(Clone, Copy, PartialEq, Eq, Debug)]
 pub enum Why {
     /// No command has this name.
-    #[error("no command has this name")]
     Name,
     /// The line ends where a word should stand.
-    #[error("a word is missing")]
     Missing,
     /// The word is not a number, or has a sign where none may stand.
-    #[error("this is not a number")]
     NotNumber,
     /// No call takes a number so large, or so far below zero.
-    #[error("the number is too large")]
     TooLarge,
     /// The word is not pairs of hex digits.
-    #[error("these are not bytes in hex")]
     NotHex,
     /// The command has all its words before this one.
-    #[error("a word too many")]
     Surplus,
     /// The command needs a pile.
-    #[error("there is no pile")]
     NoPile,
     /// The command needs a second pile.
-    #[error("there is no second pile")]
     NoSecond,
     /// The command needs a warehouse.
-    #[error("there is no warehouse")]
     NoWarehouse,
     /// The command is for piles on which no warehouse stands.
-    #[error("a warehouse stands: close it first")]
     Standing,
     /// A pile has three layers at most.
-    #[error("the pile has three layers")]
     Layers,
     /// The command needs a line.
-    #[error("there is no line")]
     NoLine,
     /// Bytes are put into a ring alone.
-    #[error("the line is no ring")]
     NoRing,
     /// The link is in another state.
-    #[error("the link is not in Welcome")]
     NotWelcome,
     /// The link is in another state.
-    #[error("the link is not Ready")]
     NotReady,
     /// The link is in another state.
-    #[error("the link is not Feeding")]
     NotFeeding,
 }
 
+impl fmt::Display for Why {
+    ghost output = { λ why. Some (why_words why) };
+
+    fn fmt<W: fmt::Write>(&self, f: &mut fmt::Formatter<W>) -> fmt::Result {
+        match self {
+            Why::Name => write!(f, "no command has this name"),
+            Why::Missing => write!(f, "a word is missing"),
+            Why::NotNumber => write!(f, "this is not a number"),
+            Why::TooLarge => write!(f, "the number is too large"),
+            Why::NotHex => write!(f, "these are not bytes in hex"),
+            Why::Surplus => write!(f, "a word too many"),
+            Why::NoPile => write!(f, "there is no pile"),
+            Why::NoSecond => write!(f, "there is no second pile"),
+            Why::NoWarehouse => write!(f, "there is no warehouse"),
+            Why::Standing => write!(f, "a warehouse stands: close it first"),
+            Why::Layers => write!(f, "the pile has three layers"),
+            Why::NoLine => write!(f, "there is no line"),
+            Why::NoRing => write!(f, "the line is no ring"),
+            Why::NotWelcome => write!(f, "the link is not in Welcome"),
+            Why::NotReady => write!(f, "the link is not Ready"),
+            Why::NotFeeding => write!(f, "the link is not Feeding"),
+        }
+    }
+}
+
+impl std::error::Error for Why {}
+
 /// The column of the first wrong word, counted in bytes from 1, and why it is wrong.
-#[derive(Clone, Copy, PartialEq, Eq, Debug, Error)]
-#[error("{column}: {why}")]
+#[derive(Clone, Copy, PartialEq, Eq, Debug)]
 pub struct Wrong {
     pub column: usize,
     pub why: Why,
 }
+
+impl fmt::Display for Wrong {
+    ghost output = { λ wrong. Some (wrong_words wrong) };
+
+    fn fmt<W: fmt::Write>(&self, f: &mut fmt::Formatter<W>) -> fmt::Result {
+        write!(f, "{}: {}", self.column, self.why)
+    }
+}
+
+impl std::error::Error for Wrong {}
 
 /// Why a line was not read.
 #[derive(Clone, Copy, PartialEq, Eq, Debug, Error)]

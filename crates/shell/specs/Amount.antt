@@ -22,7 +22,7 @@ part x = float_to_unsigned w64 (mul binary64 (sub binary64 x (of_int binary64 (p
 
 -- the whole number nearest to a / b
 abbrev pub nearest : ℕ → ℕ → ℕ → ℕ
-nearest even a b = a / b + cond (nat_lt b (2 * (a % b))) 1 (cond (2 * (a % b) == b) ((even + a / b) % 2) 0)
+nearest even a b = a / b + cond (nat_lt b (2 * (a % b))) 1 (cond (2 * (a % b) == b) ((even % 2 + a / b) % 2) 0)
 
 abbrev pub scaled : Float → ℕ → ℕ
 scaled x p = whole x * 10 ^ p + nearest (whole x * 10 ^ p) (part x * 10 ^ p) (2 ^ 19)
@@ -45,7 +45,7 @@ abbrev pub reads_back : Float → List ℕ → Bool
 reads_back x t = equals x (parse_float binary64 t)
 
 -- from p places on, k more at most
-abbrev pub amount_from : ℕ → ℕ → Float → List ℕ
+unfoldable pub amount_from : ℕ → ℕ → Float → List ℕ
 amount_from zero p x = rounded x p
 amount_from (suc k) p x = cond (reads_back x (rounded x p)) (rounded x p) (amount_from k (p + 1) x)
 

@@ -4,9 +4,8 @@
 -- help_lines       the commands, a line each
 -- answer_lines a   the lines of the answer a, each with its newline
 -- Appends more r old new     these bytes stand after the old ones, unless r is an error
-use Rattle.std.specs.Prelude.{◌≡◌, ℕ, Bool, true, false, List, [], ◌∷◌, ◌++◌, Some, None, Option, Result, OnOk, codes}
-use Rattle.std.specs.Fmt.{decimal, signed_decimal}
-use Rattle.hex.specs.Hex.{encode_lower}
+use Rattle.std.specs.Prelude.{◌≡◌, ℕ, ◌/◌, ◌%◌, Bool, true, false, List, [], ◌∷◌, ◌++◌, Some, None, Option, Result, OnOk, codes}
+use Rattle.std.specs.Fmt.{decimal, signed_decimal, digit_glyph}
 use Rattle.haar.specs.declared.trend.Trend.{Trend}
 use Rattle.haar.specs.declared.trend.Trend.TheVariants as trend
 use Rattle.compare.specs.declared.comparison.Comparison.{Comparison}
@@ -15,6 +14,43 @@ use Rattle.shell.specs.declared.answer.Answer.{Answer}
 use Rattle.shell.specs.declared.answer.Answer.TheVariants.{Done, Number, Reading, Trend as Trended, Fit, Size, Store, Cell, Cells, Compared, Audited, Taken, Welcome, Ready, Feeding, Byte, Refused, Wrong, Help}
 use Rattle.shell.specs.Amount.{amount_text}
 use Rattle.shell.specs.Faults.{wrong_words, refused_number, refused_words}
+
+unfoldable pub help_lines : List ℕ
+help_lines =
+    codes "flat T\n"
+    ++ codes "sparse T C\n"
+    ++ codes "layer\n"
+    ++ codes "write C V\n"
+    ++ codes "read C\n"
+    ++ codes "store\n"
+    ++ codes "first\n"
+    ++ codes "second\n"
+    ++ codes "compare\n"
+    ++ codes "survey N\n"
+    ++ codes "found N\n"
+    ++ codes "take N\n"
+    ++ codes "audit N\n"
+    ++ codes "close\n"
+    ++ codes "size\n"
+    ++ codes "add MINUTE VALUE\n"
+    ++ codes "load LEVEL INDEX VALUE..\n"
+    ++ codes "grow\n"
+    ++ codes "settle\n"
+    ++ codes "point I\n"
+    ++ codes "sum A B\n"
+    ++ codes "mean A B\n"
+    ++ codes "busiest A B\n"
+    ++ codes "trend J K\n"
+    ++ codes "cells\n"
+    ++ codes "line HEX\n"
+    ++ codes "ring\n"
+    ++ codes "put HEX\n"
+    ++ codes "welcome\n"
+    ++ codes "begin\n"
+    ++ codes "next\n"
+    ++ codes "end\n"
+    ++ codes "replied\n"
+    ++ codes "help\n"
 
 abbrev pub yes_no : Bool → List ℕ
 yes_no true = codes "yes"
@@ -31,11 +67,14 @@ compared_words (compared.Differ c) = codes "differ " ++ decimal c
 compared_words compared.Bands = codes "bands"
 
 abbrev pub byte_words : Option ℕ → List ℕ
-byte_words (Some b) = encode_lower (b ∷ [])
+byte_words (Some b) = digit_glyph false (b / 16) ∷ digit_glyph false (b % 16) ∷ []
 byte_words None = codes "none"
 
 abbrev pub two : List ℕ → List ℕ → List ℕ
-two a b = a ++ (32 ∷ b)
+two a b = a ++ codes " " ++ b
+
+abbrev pub store_words : ℕ → ℕ → Bool → List ℕ
+store_words bands free clean = codes "bands " ++ decimal bands ++ codes " free " ++ decimal free ++ codes " clean " ++ yes_no clean
 
 abbrev pub words_of : Answer → List ℕ
 words_of Done = codes "ok"
@@ -44,7 +83,7 @@ words_of (Reading r) = two (signed_decimal r.value) (decimal r.cells)
 words_of (Trended t) = trend_words t
 words_of Fit = codes "fit"
 words_of (Size n) = codes "size " ++ decimal n
-words_of (Store bands free clean) = codes "bands " ++ decimal bands ++ codes " free " ++ decimal free ++ codes " clean " ++ yes_no clean
+words_of (Store bands free clean) = store_words bands free clean
 words_of (Cell c v) = two (decimal c) (signed_decimal v)
 words_of (Cells n) = decimal n ++ codes " cells"
 words_of (Compared c) = compared_words c
@@ -54,12 +93,19 @@ words_of (Welcome k) = codes "welcome " ++ decimal k
 words_of Ready = codes "ready"
 words_of Feeding = codes "feeding"
 words_of (Byte b) = byte_words b
-words_of (Refused r) = codes "E " ++ decimal (refused_number r) ++ (32 ∷ refused_words r)
+words_of (Refused r) = codes "E " ++ decimal (refused_number r) ++ codes " " ++ refused_words r
 words_of (Wrong w) = codes "? " ++ wrong_words w
-words_of Help = codes "help"
+words_of Help = help_lines
+
+abbrev pub line_of : List ℕ → List ℕ
+line_of words = words ++ codes "\n"
+
+abbrev pub trend_line : Trend → List ℕ
+trend_line t = line_of (trend_words t)
 
 abbrev pub answer_lines : Answer → List ℕ
-answer_lines a = words_of a ++ 10 ∷ []
+answer_lines Help = help_lines
+answer_lines a = line_of (words_of a)
 
 abbrev pub Appends : {T E : Type 0} → List ℕ → Result T E → List ℕ → List ℕ → Type 0
 Appends more r old new = OnOk r (new ≡ old ++ more)

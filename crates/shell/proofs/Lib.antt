@@ -1,2 +1,4 @@
 pub mod Taking
 pub mod Amounts
+pub mod Runs
+pub mod Law

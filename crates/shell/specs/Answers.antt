@@ -1,7 +1,8 @@
 -- The lines of an answer, byte by byte.
 --
 -- trend_words t    a trend, with its amount
--- help_lines       the commands, a line each
+-- help_words       the commands, a newline between two
+-- words_of a       the answer a without its last newline
 -- answer_lines a   the lines of the answer a, each with its newline
 -- Appends more r old new     these bytes stand after the old ones, unless r is an error
 use Rattle.std.specs.Prelude.{◌≡◌, ℕ, ◌/◌, ◌%◌, Bool, true, false, List, [], ◌∷◌, ◌++◌, Some, None, Option, Result, OnOk, codes}
@@ -15,8 +16,8 @@ use Rattle.shell.specs.declared.answer.Answer.TheVariants.{Done, Number, Reading
 use Rattle.shell.specs.Amount.{amount_text}
 use Rattle.shell.specs.Faults.{wrong_words, refused_number, refused_words}
 
-unfoldable pub help_lines : List ℕ
-help_lines =
+unfoldable pub help_words : List ℕ
+help_words =
     codes "flat T\n"
     ++ codes "sparse T C\n"
     ++ codes "layer\n"
@@ -50,7 +51,7 @@ help_lines =
     ++ codes "next\n"
     ++ codes "end\n"
     ++ codes "replied\n"
-    ++ codes "help\n"
+    ++ codes "help"
 
 abbrev pub yes_no : Bool → List ℕ
 yes_no true = codes "yes"
@@ -95,17 +96,13 @@ words_of Feeding = codes "feeding"
 words_of (Byte b) = byte_words b
 words_of (Refused r) = codes "E " ++ decimal (refused_number r) ++ codes " " ++ refused_words r
 words_of (Wrong w) = codes "? " ++ wrong_words w
-words_of Help = help_lines
+words_of Help = help_words
 
-abbrev pub line_of : List ℕ → List ℕ
-line_of words = words ++ codes "\n"
-
-abbrev pub trend_line : Trend → List ℕ
-trend_line t = line_of (trend_words t)
+abbrev pub ended : List ℕ → List ℕ
+ended words = words ++ codes "\n"
 
 abbrev pub answer_lines : Answer → List ℕ
-answer_lines Help = help_lines
-answer_lines a = line_of (words_of a)
+answer_lines a = ended (words_of a)
 
 abbrev pub Appends : {T E : Type 0} → List ℕ → Result T E → List ℕ → List ℕ → Type 0
 Appends more r old new = OnOk r (new ≡ old ++ more)

@@ -6,7 +6,7 @@
 -- command_at   the command that the next words say
 -- command_of   the same, where no further word may come
 -- line_of      what a line says
-use Rattle.std.specs.Prelude.{ℕ, ◌+◌, ◌-◌, Bool, cond, ◌||◌, List, [], ◌∷◌, length, ℤ, Some, None, Ok, Err, Option, Result, ◌==◌, slice_index}
+use Rattle.std.specs.Prelude.{ℕ, ◌+◌, ◌-◌, Bool, cond, ◌||◌, List, length, ℤ, Some, None, Ok, Err, Option, Result, ◌==◌, slice_index}
 use Rattle.shell.specs.declared.command.Command.{Command}
 use Rattle.shell.specs.declared.command.Command.TheVariants.{Flat, Sparse, Layer, Write, Read, Store, First, Second, Compare, Survey, Found, Take, Audit, Close, Size, Add, Load, Grow, Settle, Point, Sum, Mean, Busiest, Trend, Cells, Line, Ring, Put, Welcome, Begin, Next, End, Replied, Help}
 use Rattle.shell.specs.declared.wrong.Why.{Why}

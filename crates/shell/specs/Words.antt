@@ -1,6 +1,7 @@
 -- The words of a line, and what one stands for.
 --
 -- blank b               b is a space or a tab
+-- blanks bs             how many blanks stand before the next word
 -- begun bs              the bytes from the next word on
 -- word bs, after bs     the next word, empty where none comes, and the bytes after it
 -- numeral limit w       the number that the word w is in decimal, if it is below the limit
@@ -28,8 +29,11 @@ misread left why = record { left = left; why = why }
 abbrev pub blank : ℕ → Bool
 blank b = b == 32 || b == 9
 
+abbrev pub blanks : List ℕ → ℕ
+blanks bs = position_or_len (λ b. not (blank b)) bs
+
 abbrev pub begun : List ℕ → List ℕ
-begun bs = drop (position_or_len (λ b. not (blank b)) bs) bs
+begun bs = drop (blanks bs) bs
 
 abbrev pub word : List ℕ → List ℕ
 word bs = before_first blank (begun bs)

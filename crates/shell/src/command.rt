@@ -1,5 +1,4 @@
 //! What a line asks for.
-use std::alloc::Global;
 
 /// A command of the shell with what it was given, each number as wide as the call that takes it.
 #[derive(PartialEq, Eq, Debug, Drop)]

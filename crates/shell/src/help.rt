@@ -1,6 +1,6 @@
 //! What `help` prints.
 
-/// The commands with their operands, a line each.
+/// The commands with their operands, a newline between two.
 pub const HELP: &str = "\
 flat T
 sparse T C
@@ -35,5 +35,4 @@ begin
 next
 end
 replied
-help
-";
+help";

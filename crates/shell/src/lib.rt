@@ -5,8 +5,11 @@ mod amount;
 pub mod answer;
 pub mod command;
 pub mod help;
+pub mod laws;
 pub mod line;
 mod reading;
+#[cfg(test)]
+mod tests;
 pub mod text;
 mod verb;
 mod words;

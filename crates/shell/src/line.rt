@@ -1,5 +1,5 @@
 //! A line, read.
-ghost use Rattle.std.specs.Prelude.{◌≡◌, ◌+◌, length};
+ghost use Rattle.std.specs.Prelude.{◌≡◌};
 ghost use Rattle.shell.specs.Grammar.{column, is_silent};
 ghost use Rattle.shell.specs.Reading.{ReadsLine, located};
 

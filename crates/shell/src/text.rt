@@ -1,6 +1,6 @@
 //! Answers as lines.
 ghost use Rattle.std.specs.Prelude.{Some, string_bytes};
-ghost use Rattle.shell.specs.Answers.{answer_lines, trend_line, line_of, byte_words, store_words, help_lines, compared_words, yes_no, Appends};
+ghost use Rattle.shell.specs.Answers.{answer_lines, trend_words, ended, byte_words, store_words, help_words, compared_words, yes_no, Appends};
 
 use crate::amount::amount_text;
 use crate::answer::Answer;
@@ -44,7 +44,7 @@ impl fmt::Display for YesNo {
 }
 
 fn push_trend(text: &mut String, trend: Trend, heap: Global) -> Result<(), AllocError>
-    ensures { Appends (trend_line trend) result (string_bytes text.old) (string_bytes text.new) }
+    ensures { Appends (ended (trend_words trend)) result (string_bytes text.old) (string_bytes text.new) }
 {
     match trend {
         Trend::Falling(amount) => writeln!(text, "falling {}", amount_text(amount, heap)?),
@@ -55,7 +55,7 @@ fn push_trend(text: &mut String, trend: Trend, heap: Global) -> Result<(), Alloc
 
 #[tactic(auto, using(std::proofs::lemmas::Fmt::hex_byte))]
 fn push_byte(text: &mut String, byte: Option<u8>) -> Result<(), AllocError>
-    ensures { Appends (line_of (byte_words byte)) result (string_bytes text.old) (string_bytes text.new) }
+    ensures { Appends (ended (byte_words byte)) result (string_bytes text.old) (string_bytes text.new) }
 {
     match byte {
         Some(byte) => writeln!(text, "{byte:02x}"),
@@ -64,16 +64,16 @@ fn push_byte(text: &mut String, byte: Option<u8>) -> Result<(), AllocError>
 }
 
 fn push_store(text: &mut String, bands: u8, free: u32, clean: bool) -> Result<(), AllocError>
-    ensures { Appends (line_of (store_words bands free clean)) result (string_bytes text.old) (string_bytes text.new) }
+    ensures { Appends (ended (store_words bands free clean)) result (string_bytes text.old) (string_bytes text.new) }
 {
     writeln!(text, "bands {bands} free {free} clean {}", YesNo(clean))
 }
 
-#[tactic(auto, unfolding(crate::specs::Answers::help_lines))]
+#[tactic(auto, unfolding(crate::specs::Answers::help_words))]
 fn push_help(text: &mut String) -> Result<(), AllocError>
-    ensures { Appends help_lines result (string_bytes text.old) (string_bytes text.new) }
+    ensures { Appends (ended help_words) result (string_bytes text.old) (string_bytes text.new) }
 {
-    text.push_str(HELP)
+    writeln!(text, "{HELP}")
 }
 
 /// Puts the lines of an answer, each with its newline, at the end of a text.

@@ -1,8 +1,7 @@
 //! The words that commands begin with.
 ghost use Rattle.std.specs.Prelude.{◌≡◌};
-ghost use Rattle.std.specs.List.{find};
 ghost use Rattle.std.specs.Str.{bytes_eq};
-ghost use Rattle.shell.specs.Verbs.{name_of, verbs, verb_of};
+ghost use Rattle.shell.specs.Verbs.{name_of, verb_of};
 
 // A command, whatever it is given.
 #[derive(Clone, Copy, PartialEq, Eq, Debug)]

@@ -1,4 +1,4 @@
-use Rattle.std.proofs.Common.{◌≡◌, ◌<◌, ◌≤◌, true, false, string_bytes, IfOk, sym, subst, ap, ◌∙◌, arith}
+use Rattle.std.proofs.Common.{◌≡◌, true, false, string_bytes, IfOk, sym, subst, ap, ◌∙◌, arith}
 use Rattle.shell.specs.Amount.{rounded, reads_back}
 use Rattle.shell.proofs.Amounts.{read_there, read_later, at_last}
 use Rattle.shell.proofs.amount.amount_text.Goals as goal

@@ -1,4 +1,4 @@
-use Rattle.std.proofs.Common.{ℕ, ◌-◌, ◌/◌, ◌%◌, ◌<◌, ◌≤◌, List, ◌++◌, decimal, string_bytes, sym, ap, ◌∙◌, arith}
+use Rattle.std.proofs.Common.{ℕ, ◌-◌, ◌/◌, ◌%◌, ◌<◌, List, ◌++◌, decimal, sym, ap, ◌∙◌, arith}
 use Rattle.shell.specs.Amount.{places}
 use Rattle.shell.proofs.Amounts.{come_more}
 use Rattle.shell.proofs.amount.push_places.Goals as goal

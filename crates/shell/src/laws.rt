@@ -14,7 +14,6 @@ pub fn worked_lines()
 {}
 
 /// A word is a whole run of bytes that are no blanks.
-#[tactic(auto, using(crate::proofs::Runs::words_are_runs))]
 pub fn words_are_runs()
     ensures { WordsAreRuns }
 {}

@@ -1,7 +1,7 @@
-// Making a flat store of a slice.
+// Making a flat store of a slice, and giving the slice back.
 ghost use Rattle.std.specs.Prelude.{◌≡◌};
 ghost use Rattle.flat.specs.FlatMeaning.{flat_means};
-ghost use Rattle.flat.specs.Slice.{Greatest, Made};
+ghost use Rattle.flat.specs.Slice.{Greatest, Made, MadeUpTo};
 
 use crate::slice::Flat;
 use crate::zeros::count_zeros;
@@ -14,7 +14,16 @@ impl<'a> Flat<'a> {
         ensures lender { result.numbers.ghost_name ≡ numbers.entry.ghost_name }
         ensures same { result.numbers.now ≡ numbers.old }
     {
-        let bands = most_bands(numbers.len());
+        Flat::with_bands(numbers, 5)
+    }
+
+    // A store of so many bands, or as many as the slice has room for, with the slice's numbers in its cells.
+    pub fn with_bands(numbers: &'a mut [i64], most: u8) -> Flat<'a>
+        ensures made { MadeUpTo most numbers.old (flat_means result) }
+        ensures lender { result.numbers.ghost_name ≡ numbers.entry.ghost_name }
+        ensures same { result.numbers.now ≡ numbers.old }
+    {
+        let bands = most_bands(numbers.len()).min(most);
         let count = cell_count(bands);
         let zeros = count_zeros(numbers, count);
         Flat {
@@ -30,6 +39,15 @@ impl<'a> Flat<'a> {
         ensures { result.now ≡ self.now.numbers.now }
     {
         self.numbers
+    }
+
+    // The slice back, in place of the store.
+    pub fn into_numbers(self) -> &'a mut [i64]
+        ensures lender { result.ghost_name ≡ self.entry.numbers.ghost_name }
+        ensures same { result.now ≡ self.entry.numbers.now }
+    {
+        let Flat { numbers, .. } = self;
+        numbers
     }
 }
 

@@ -13,7 +13,7 @@ rises d (suc e) T q =
     let less = rises d e (d + e) refl in
     omega arith
 
-fewer_fit : (d T n : ℕ) → d ≤ T → cell_count T ≤ n → cell_count d ≤ n
+pub fewer_fit : (d T n : ℕ) → d ≤ T → cell_count T ≤ n → cell_count d ≤ n
 fewer_fit d T n few fits =
     let r = rises d (T - d) T (omega arith) in
     omega arith

@@ -1,1 +1,3 @@
 pub mod Either
+pub mod Piles
+pub mod Bottoms

@@ -1,5 +1,7 @@
 // A store chosen at run time, and piles of it.
 #![tactic(auto)]
 
+pub mod bottoms;
 pub mod either;
 pub mod either_store;
+pub mod piles;

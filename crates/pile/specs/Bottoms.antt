@@ -1,0 +1,28 @@
+-- The stores at the bottom of a pile: flat in a slice of the caller's, or sparse.
+--   bottom_means    what such a store means
+--   numbers_in      the slice of a flat one, and no numbers of a sparse one
+--   EmptyUpTo       an empty flat store over so many numbers, of so many bands at most
+use Rattle.std.specs.Prelude.{◌≡◌, ℕ, ◌-◌, ◌<◌, min, true, List, [], ℤ, pos}
+use Rattle.haar.specs.Tiles.{cell_count}
+use Rattle.store.specs.Meaning.{Meaning, filled}
+use Rattle.store.specs.declared.sparse.Sparse.{Sparse}
+use Rattle.store.specs.SparseMeaning.{sparse_means}
+use Rattle.flat.specs.declared.slice.Flat.{Flat}
+use Rattle.flat.specs.FlatMeaning.{flat_means}
+use Rattle.flat.specs.Slice.{GreatestUpTo}
+use Rattle.pile.specs.declared.either.Either.{Either}
+use Rattle.pile.specs.declared.either.Either.TheVariants.{Left, Right}
+use Rattle.pile.specs.Either.{either_means}
+
+abbrev pub bottom_means : Either Flat Sparse → Meaning
+bottom_means = either_means flat_means sparse_means
+
+abbrev pub numbers_in : Either Flat Sparse → List ℤ
+numbers_in (Left flat) = flat.numbers.now
+numbers_in (Right sparse) = []
+
+pub record EmptyUpTo (most numbers : ℕ) (m : Meaning) : Type 0 where
+  pub bands : GreatestUpTo (min 5 most) numbers m.bands
+  pub cells : (k : ℕ) → k < cell_count m.bands → m.cells k ≡ pos 0
+  pub room : m.room ≡ pos (cell_count m.bands - filled m.cells (cell_count m.bands))
+  pub clean : m.clean ≡ true

@@ -26,6 +26,13 @@ pub struct Indexed<S: Store, I: Store> {
 }
 
 impl<S: Store, I: Store> Indexed<S, I> {
+    /// The second pile's store, to be looked at.
+    pub fn second(&self) -> &I
+        ensures { result.now ≡ self.now.index.store }
+    {
+        &self.index.store
+    }
+
     /// The first pile: for beginning a load, and for the questions of a plain warehouse (points, sums, means, trends).
     pub fn plain(&self) -> &Warehouse<S>
         ensures { result.now ≡ self.now.first }

@@ -4,4 +4,5 @@
 pub mod bottoms;
 pub mod either;
 pub mod either_store;
+pub mod laying;
 pub mod piles;

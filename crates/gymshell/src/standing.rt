@@ -1,0 +1,131 @@
+// A warehouse that stands on one pile, or an indexed one that stands on two.
+ghost use Rattle.std.specs.Prelude.{◌≡◌};
+ghost use Rattle.gymshell.specs.Standing.{plain_of};
+
+use indexed::founding as twofold;
+use indexed::indexed::Indexed;
+use loads::growth::grow;
+use loads::loading::begin;
+use loads::open::{OpenLoad, RefusedLoad};
+use loads::point::add_point;
+use store::interface::Store;
+use warehouse::fault::Refusal;
+use warehouse::founding::survey;
+use warehouse::reading::Reading;
+use warehouse::record::Warehouse;
+
+#[derive(Drop)]
+pub enum Standing<S: Store> {
+    Plain(Warehouse<S>),
+    Indexed(Indexed<S, S>),
+}
+
+// Whether a warehouse of this size can be founded on the first pile, or an indexed one on both.
+pub fn survey_piles<S: Store>(first: &S, second: Option<&S>, size: u8) -> Result<(), Refusal> {
+    match second {
+        None => survey(first, size),
+        Some(second) => twofold::survey(first, second, size),
+    }
+}
+
+impl<S: Store> Standing<S> {
+    // On the first pile, or on both, whatever they hold.
+    pub fn take_over(first: S, second: Option<S>, size: u8) -> Standing<S> {
+        match second {
+            None => Standing::Plain(Warehouse::take_over(first, size)),
+            Some(second) => Standing::Indexed(Indexed::take_over(first, second, size)),
+        }
+    }
+
+    // The piles, settled.
+    pub fn close(self) -> (S, Option<S>) {
+        match self {
+            Standing::Plain(warehouse) => (warehouse.close(), None),
+            Standing::Indexed(warehouse) => {
+                let (first, second) = warehouse.close();
+                (first, Some(second))
+            }
+        }
+    }
+
+    // The warehouse of the first pile.
+    pub fn plain(&self) -> &Warehouse<S>
+        ensures { result.now ≡ plain_of self.now }
+    {
+        match self {
+            Standing::Plain(warehouse) => warehouse,
+            Standing::Indexed(warehouse) => warehouse.plain(),
+        }
+    }
+
+    // The second pile, where one is used.
+    pub fn second(&self) -> Option<&S> {
+        match self {
+            Standing::Plain(_) => None,
+            Standing::Indexed(warehouse) => Some(warehouse.second()),
+        }
+    }
+
+    pub fn add_point(&mut self, minute: u32, value: i64) -> Result<u32, Refusal> {
+        match self {
+            Standing::Plain(warehouse) => add_point(warehouse, minute, value),
+            Standing::Indexed(warehouse) => warehouse.add_point(minute, value),
+        }
+    }
+
+    pub fn grow(&mut self) -> Result<u8, Refusal> {
+        match self {
+            Standing::Plain(warehouse) => grow(warehouse),
+            Standing::Indexed(warehouse) => warehouse.grow(),
+        }
+    }
+
+    pub fn settle(&mut self) {
+        match self {
+            Standing::Plain(warehouse) => warehouse.settle(),
+            Standing::Indexed(warehouse) => warehouse.settle(),
+        }
+    }
+
+    // The largest minute of a range, where a second pile has an index.
+    pub fn busiest(&self, from: u32, to: u32) -> Option<Result<Reading, Refusal>> {
+        match self {
+            Standing::Plain(_) => None,
+            Standing::Indexed(warehouse) => Some(warehouse.busiest(from, to)),
+        }
+    }
+
+    fn finish(&mut self, load: OpenLoad, buffer: &mut [i64]) -> Result<u32, RefusedLoad> {
+        match self {
+            Standing::Plain(warehouse) => load.finish(warehouse, buffer),
+            Standing::Indexed(warehouse) => warehouse.finish(load, buffer),
+        }
+    }
+
+    // A load with these values, begun and finished; where one is refused, or the finish is, it is given up.
+    pub fn load(
+        &mut self,
+        level: u8,
+        index: u32,
+        values: &[i64],
+        buffer: &mut [i64],
+    ) -> Result<u32, Refusal> {
+        let mut load = begin(self.plain(), level, index)?;
+        for value in values {
+            load = match load.value(buffer, *value) {
+                Ok(load) => load,
+                Err(refused) => return Err(given_up(refused)),
+            };
+        }
+        self.finish(load, buffer).map_err(given_up)
+    }
+}
+
+// Why a load was refused, which is given up.
+fn given_up(refused: RefusedLoad) -> Refusal
+    ensures { result ≡ refused.refusal }
+{
+    let RefusedLoad { load, refusal } = refused;
+    let _ = load.give_up();
+    refusal
+}

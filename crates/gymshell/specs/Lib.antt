@@ -1,1 +1,4 @@
 pub mod Standing
+pub mod Wire
+pub mod Pile
+pub mod Asking

@@ -1,44 +1,37 @@
-// A place for a pile, with the numbers that a flat store in it takes.
-use pile::bottoms::{Bottom, flat_bottom, into_numbers, sparse_bottom};
+// A place for a pile, and what its bottom is laid from.
+use pile::laying::Lays;
 use pile::piles::{Pile, add_layer, into_bottom, pile_of};
 use shell::wrong::Why;
-use std::mem::replace;
 
 #[derive(Drop)]
-pub struct Slot<'a> {
-    pub pile: Option<Pile<Bottom<'a>>>,
-    // none while a flat store has them
-    spare: &'a mut [i64],
+pub struct Slot<L: Lays> {
+    pub pile: Option<Pile<L::Bottom>>,
+    ground: L,
 }
 
-impl<'a> Slot<'a> {
-    // No pile yet; a flat store that comes has its cells among these numbers.
-    pub fn new(numbers: &'a mut [i64]) -> Slot<'a> {
-        Slot {
-            pile: None,
-            spare: numbers,
-        }
+impl<L: Lays> Slot<L> {
+    // No pile yet.
+    pub fn new(ground: L) -> Slot<L> {
+        Slot { pile: None, ground }
     }
 
-    // The numbers, taken back from the pile if it has them; there is no pile then.
-    fn take_numbers(&mut self) -> &'a mut [i64] {
-        let spare = replace(&mut self.spare, &mut []);
-        match self.pile.take() {
-            None => spare,
-            Some(pile) => into_numbers(into_bottom(pile)).unwrap_or(spare),
+    // The pile that was there goes.
+    fn clear(&mut self) {
+        if let Some(pile) = self.pile.take() {
+            self.ground.take_back(into_bottom(pile));
         }
     }
 
     // An empty flat store, in place of the pile that was there.
     pub fn lay_flat(&mut self, bands: u8) {
-        let numbers = self.take_numbers();
-        self.pile = Some(pile_of(flat_bottom(numbers, bands)));
+        self.clear();
+        self.pile = Some(pile_of(self.ground.lay_flat(bands)));
     }
 
     // An empty sparse store, in place of the pile that was there.
     pub fn lay_sparse(&mut self, bands: u8, capacity: u16) {
-        self.spare = self.take_numbers();
-        self.pile = Some(pile_of(sparse_bottom(bands, capacity)));
+        self.clear();
+        self.pile = Some(pile_of(self.ground.lay_sparse(bands, capacity)));
     }
 
     // One layer more on the pile.

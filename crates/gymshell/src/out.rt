@@ -1,0 +1,54 @@
+// Where answers go.
+use crate::temp::push_answer;
+use haar::cells::cell_count;
+use shell::answer::Answer;
+use std::alloc::Global;
+use std::io;
+use std::io::Write;
+use store::interface::Store;
+
+// Answers as bytes to a writer, and whether one of them was a refusal or a wrong line.
+#[derive(Drop)]
+pub struct Out<W: Write + Drop> {
+    writer: W,
+    text: Vec<u8>,
+    pub bad: bool,
+}
+
+impl<W: Write + Drop> Out<W> {
+    pub fn new(alloc: Global, writer: W) -> Out<W> {
+        Out {
+            writer,
+            text: Vec::new(alloc),
+            bad: false,
+        }
+    }
+
+    pub fn print(&mut self, answer: Answer) -> anyhow::Result<()> {
+        if let Answer::Refused(_) | Answer::Wrong(_) = answer {
+            self.bad = true;
+        }
+        self.text.clear();
+        push_answer(&mut self.text, answer)?;
+        self.writer.write_all(&self.text)?;
+        Ok(())
+    }
+
+    pub fn flush(&mut self) -> io::Result<()> {
+        self.writer.flush()
+    }
+}
+
+// Each nonzero cell of a store, by rising number, and how many they are.
+pub fn print_cells<S: Store, W: Write + Drop>(store: &S, out: &mut Out<W>) -> anyhow::Result<()> {
+    let mut many = 0u32;
+    for cell in 0..cell_count(store.bands()) {
+        if let Ok(value) = store.read(cell) {
+            if value != 0 {
+                out.print(Answer::Cell { cell, value })?;
+                many += 1;
+            }
+        }
+    }
+    out.print(Answer::Cells(many))
+}

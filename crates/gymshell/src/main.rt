@@ -9,15 +9,12 @@ mod slot;
 mod standing;
 mod state;
 mod talk;
-mod temp;
 
 use out::Out;
 use pile::laying::Numbers;
-use state::State;
-use std::alloc::Global;
-use std::env;
 use std::io::{BufRead, BufReader, BufWriter};
 use std::process::ExitCode;
+use std::{env, io};
 use talk::session;
 
 // The cells of five bands.
@@ -26,22 +23,32 @@ const CELLS: usize = 1_118_480;
 // The values of the largest load.
 const VALUES: usize = 4096;
 
-fn run(rt: &HostRuntime) -> anyhow::Result<ExitCode> {
+// The lines of an input, or words as lines: whether one of them was answered by a refusal or was wrong.
+fn answered<I: Iterator<Item = io::Result<Vec<u8>>>>(
+    rt: &HostRuntime,
+    lines: &mut I,
+) -> anyhow::Result<bool> {
     let alloc = rt.alloc();
     let mut first = vec![in alloc; 0i64; CELLS]?;
     let mut second = vec![in alloc; 0i64; CELLS]?;
     let buffer = vec![in alloc; 0i64; VALUES]?;
-    let mut state = State::new(Numbers::new(&mut first), Numbers::new(&mut second), buffer);
     let mut out = Out::new(alloc, BufWriter::new(alloc, rt.stdout())?);
+    let first = Numbers::new(&mut first);
+    let second = Numbers::new(&mut second);
+    session(first, second, buffer, lines, &mut out, alloc)?;
+    Ok(out.bad)
+}
+
+fn run(rt: &HostRuntime) -> anyhow::Result<ExitCode> {
+    let alloc = rt.alloc();
     let mut words = env::args(rt)?.skip(1).peekable();
     if words.peek().is_none() {
         let mut lines = BufReader::new(alloc, rt.stdin())?.split(alloc, b'\n');
-        session(&mut state, &mut lines, &mut out, alloc)?;
+        answered(rt, &mut lines)?;
         return Ok(ExitCode::SUCCESS);
     }
     let mut lines = words.map(|word| Ok(word.into_bytes()));
-    session(&mut state, &mut lines, &mut out, alloc)?;
-    Ok(if out.bad {
+    Ok(if answered(rt, &mut lines)? {
         ExitCode::FAILURE
     } else {
         ExitCode::SUCCESS

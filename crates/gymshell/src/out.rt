@@ -1,7 +1,7 @@
 // Where answers go.
-use crate::temp::push_answer;
 use haar::cells::cell_count;
 use shell::answer::Answer;
+use shell::text::push_answer;
 use std::alloc::Global;
 use std::io;
 use std::io::Write;
@@ -11,7 +11,7 @@ use store::interface::Store;
 #[derive(Drop)]
 pub struct Out<W: Write + Drop> {
     writer: W,
-    text: Vec<u8>,
+    alloc: Global,
     pub bad: bool,
 }
 
@@ -19,7 +19,7 @@ impl<W: Write + Drop> Out<W> {
     pub fn new(alloc: Global, writer: W) -> Out<W> {
         Out {
             writer,
-            text: Vec::new(alloc),
+            alloc,
             bad: false,
         }
     }
@@ -28,9 +28,9 @@ impl<W: Write + Drop> Out<W> {
         if let Answer::Refused(_) | Answer::Wrong(_) = answer {
             self.bad = true;
         }
-        self.text.clear();
-        push_answer(&mut self.text, answer)?;
-        self.writer.write_all(&self.text)?;
+        let mut text = String::new(self.alloc);
+        push_answer(&mut text, answer, self.alloc)?;
+        self.writer.write_all(text.as_bytes())?;
         Ok(())
     }
 

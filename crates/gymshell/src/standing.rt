@@ -1,6 +1,12 @@
 // A warehouse that stands on one pile, or an indexed one that stands on two.
 ghost use Rattle.std.specs.Prelude.{◌≡◌};
-ghost use Rattle.gymshell.specs.Standing.{plain_of};
+ghost use Rattle.store.specs.Meaning.{Settles};
+ghost use Rattle.loads.specs.Addition.{AddsPoint};
+ghost use Rattle.loads.specs.Growing.{Growth};
+ghost use Rattle.loads.specs.Opening.{Finishes};
+ghost use Rattle.agreement.specs.Call.{load, add, grow, settle, settled};
+ghost use Rattle.agreement.specs.Reply.{finish_reply, written_reply, growth_reply};
+ghost use Rattle.gymshell.specs.Standing.{Does, busiest_of, plain_of};
 
 use indexed::founding as twofold;
 use indexed::indexed::Indexed;
@@ -66,21 +72,27 @@ impl<S: Store> Standing<S> {
         }
     }
 
-    pub fn add_point(&mut self, minute: u32, value: i64) -> Result<u32, Refusal> {
+    pub fn add_point(&mut self, minute: u32, value: i64) -> Result<u32, Refusal>
+        ensures { Does S.means self.old (λ v v'. AddsPoint v minute value result v') (add minute value) (written_reply result) self.new }
+    {
         match self {
             Standing::Plain(warehouse) => add_point(warehouse, minute, value),
             Standing::Indexed(warehouse) => warehouse.add_point(minute, value),
         }
     }
 
-    pub fn grow(&mut self) -> Result<u8, Refusal> {
+    pub fn grow(&mut self) -> Result<u8, Refusal>
+        ensures { Does S.means self.old (λ v v'. Growth v result v') grow (growth_reply result) self.new }
+    {
         match self {
             Standing::Plain(warehouse) => grow(warehouse),
             Standing::Indexed(warehouse) => warehouse.grow(),
         }
     }
 
-    pub fn settle(&mut self) {
+    pub fn settle(&mut self)
+        ensures { Does S.means self.old (λ v v'. Settles v.store v'.store) settle settled self.new }
+    {
         match self {
             Standing::Plain(warehouse) => warehouse.settle(),
             Standing::Indexed(warehouse) => warehouse.settle(),
@@ -88,17 +100,21 @@ impl<S: Store> Standing<S> {
     }
 
     // The largest minute of a range, where a second pile has an index.
-    pub fn busiest(&self, from: u32, to: u32) -> Option<Result<Reading, Refusal>> {
+    pub fn busiest(&self, from: u32, to: u32) -> Option<Result<Reading, Refusal>>
+        ensures { result ≡ busiest_of S.means self.now from to }
+    {
         match self {
             Standing::Plain(_) => None,
             Standing::Indexed(warehouse) => Some(warehouse.busiest(from, to)),
         }
     }
 
-    fn finish(&mut self, load: OpenLoad, buffer: &mut [i64]) -> Result<u32, RefusedLoad> {
+    fn finish(&mut self, opened: OpenLoad, buffer: &mut [i64]) -> Result<u32, RefusedLoad>
+        ensures { Does S.means self.old (λ v v'. Finishes opened v buffer.old result v') (load opened.level opened.index opened.taken buffer.old) (finish_reply result) self.new }
+    {
         match self {
-            Standing::Plain(warehouse) => load.finish(warehouse, buffer),
-            Standing::Indexed(warehouse) => warehouse.finish(load, buffer),
+            Standing::Plain(warehouse) => opened.finish(warehouse, buffer),
+            Standing::Indexed(warehouse) => warehouse.finish(opened, buffer),
         }
     }
 

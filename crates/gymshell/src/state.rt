@@ -51,7 +51,6 @@ impl<L: Lays> State<L> {
         }
     }
 
-
     fn lay_flat(&mut self, bands: u8) -> Answer {
         match self.place {
             Place::First => self.first.lay_flat(bands),
@@ -177,10 +176,7 @@ impl<L: Lays> State<L> {
             | Command::Found { .. }
             | Command::Take { .. }
             | Command::Audit { .. }
-                if standing =>
-            {
-                Err(Why::Standing)
-            }
+                if standing => { Err(Why::Standing) }
             Command::Flat { bands } => Ok(self.lay_flat(*bands)),
             Command::Sparse { bands, capacity } => Ok(self.lay_sparse(*bands, *capacity)),
             Command::Layer => self.layer(),

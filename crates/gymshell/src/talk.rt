@@ -2,11 +2,11 @@
 use crate::board::{Board, Given};
 use crate::out::{Out, print_cells};
 use crate::state::State;
-use crate::temp::read_line;
 use anyhow::bail;
 use pile::laying::Lays;
 use shell::answer::Answer;
 use shell::command::{Command, Spoken};
+use shell::line::read_line;
 use shell::wrong::{LineFault, Why, Wrong};
 use std::alloc::Global;
 use std::io;
@@ -86,16 +86,19 @@ fn talk<L: Lays, I: Iterator<Item = io::Result<Vec<u8>>>, W: Write + Drop>(
     bail!("too many lines")
 }
 
-// All lines.
-pub fn session<L: Lays, I: Iterator<Item = io::Result<Vec<u8>>>, W: Write + Drop>(
-    state: &mut State<L>,
+// All lines, from no pile on, on bottoms laid by these two.
+pub fn session<L: Lays + Drop, I: Iterator<Item = io::Result<Vec<u8>>>, W: Write + Drop>(
+    first: L,
+    second: L,
+    buffer: Vec<i64>,
     lines: &mut I,
     out: &mut Out<W>,
     alloc: Global,
 ) -> anyhow::Result<()> {
+    let mut state = State::new(first, second, buffer);
     let mut given = Given::Nothing;
     for _ in 0..u64::MAX {
-        match talk(state, &given, lines, out, alloc)? {
+        match talk(&mut state, &given, lines, out, alloc)? {
             Some(next) => given = next,
             None => return Ok(()),
         }

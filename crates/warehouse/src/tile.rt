@@ -35,7 +35,7 @@ impl<S: Store> Tree<'_, S> {
 }
 
 impl<S: Store> Warehouse<S> {
-    /// The sixteen minutes of bottom tile (0, `tile`), 0 past the size; or Torn at the cell that the first point names which cannot be read.
+    /// The sixteen minutes of bottom tile (0, `tile`), 0 past the size; or the refusal of the first of them that cannot be read as a point.
     pub fn tile_minutes(&self, tile: u32) -> Result<[i64; 16], Fault>
         ensures { TileMinutes (known S.means self.now) tile result }
     {

@@ -1,2 +1,3 @@
 pub mod Compared
 pub mod Words
+pub mod Playing

@@ -2,8 +2,8 @@
 use Rattle.std.proofs.Common.{◌≡◌, ℕ, zero, suc, ◌+◌, ◌<◌, Bool, true, false, not, cond, ◌&&◌, List, [], ◌∷◌, ◌++◌, length, take, drop, refl, subst, sym, ap, ap₂, ◌∙◌, arith}
 use Rattle.std.proofs.lemmas.List.{take-append-drop}
 use Rattle.std.specs.List.{prefix_len, list_all}
-use Rattle.shell.specs.Words.{blank, blanks, begun, word, after}
-use Rattle.shell.specs.Law.{is_past_word, IsRun, WordsAreRuns}
+use Rattle.shell.specs.Words.{blank, blanks, begun}
+use Rattle.shell.specs.Law.{is_past_word, WordsAreRuns}
 
 one_more : (n : ℕ) → 1 + n ≡ suc n
 one_more n = omega arith

@@ -7,7 +7,7 @@
 -- rounded x p            x with p decimal places
 -- reads_back x t         the text t is read as a number equal to x
 -- amount_text x          x with the fewest decimal places that read back as x, of at most 19
-use Rattle.std.specs.Prelude.{ℕ, zero, suc, ◌+◌, ◌-◌, ◌*◌, ◌/◌, ◌%◌, ◌^◌, false, Bool, cond, List, [], ◌∷◌, ◌++◌, pos, Some, None, Option, Float, nat_lt, ◌==◌}
+use Rattle.std.specs.Prelude.{ℕ, zero, suc, ◌+◌, ◌*◌, ◌/◌, ◌%◌, ◌^◌, false, Bool, cond, List, [], ◌∷◌, ◌++◌, pos, Some, None, Option, Float, nat_lt, ◌==◌}
 use Rattle.std.specs.Fmt.{decimal}
 use Rattle.std.specs.Int.{w64}
 use Rattle.std.specs.Float.{binary64, float_to_unsigned}

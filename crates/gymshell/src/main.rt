@@ -33,8 +33,8 @@ fn answered<I: Iterator<Item = io::Result<Vec<u8>>>>(
     let mut second = vec![in alloc; 0i64; CELLS]?;
     let buffer = vec![in alloc; 0i64; VALUES]?;
     let mut out = Out::new(alloc, BufWriter::new(alloc, rt.stdout())?);
-    let first = Numbers::new(&mut first);
-    let second = Numbers::new(&mut second);
+    let first = Numbers::new(alloc, &mut first);
+    let second = Numbers::new(alloc, &mut second);
     session(first, second, buffer, lines, &mut out, alloc)?;
     Ok(out.bad)
 }

@@ -1,14 +1,16 @@
 // The state of the shell: two places for piles, and the warehouse that may stand on them.
 use crate::asking::{ask, change, refused};
-use crate::piles::{compare_piles, describe};
+use crate::piles::describe;
 use crate::slot::Slot;
 use crate::standing::{Standing, survey_piles};
 use audit::audit::audit;
+use compare::comparing::compare;
 use pile::laying::Lays;
 use pile::piles::Pile;
 use shell::answer::{Answer, Refused};
 use shell::command::Command;
 use shell::wrong::Why;
+use std::alloc::AllocError;
 use store::interface::Store;
 
 // Of which pile the commands of a pile speak.
@@ -44,8 +46,8 @@ impl<L: Lays> State<L> {
     // The pile of which commands speak, also while a warehouse stands on it.
     pub fn pile(&self) -> Option<&Pile<L::Bottom>> {
         match (&self.standing, self.place) {
-            (None, Place::First) => self.first.pile.as_ref(),
-            (None, Place::Second) => self.second.pile.as_ref(),
+            (None, Place::First) => self.first.store(),
+            (None, Place::Second) => self.second.store(),
             (Some(standing), Place::First) => Some(&standing.plain().store),
             (Some(standing), Place::Second) => standing.second(),
         }
@@ -59,12 +61,20 @@ impl<L: Lays> State<L> {
         Answer::Done
     }
 
-    fn lay_sparse(&mut self, bands: u8, capacity: u16) -> Answer {
-        match self.place {
-            Place::First => self.first.lay_sparse(bands, capacity),
-            Place::Second => self.second.lay_sparse(bands, capacity),
+    // An empty sparse store, in place of the pile that was there; an Err is want of memory.
+    pub fn lay_sparse(
+        &mut self,
+        bands: u8,
+        capacity: u16,
+    ) -> Result<Result<Answer, Why>, AllocError> {
+        if self.standing.is_some() {
+            return Ok(Err(Why::Standing));
         }
-        Answer::Done
+        match self.place {
+            Place::First => self.first.lay_sparse(bands, capacity)?,
+            Place::Second => self.second.lay_sparse(bands, capacity)?,
+        }
+        Ok(Ok(Answer::Done))
     }
 
     fn layer(&mut self) -> Result<Answer, Why> {
@@ -83,7 +93,7 @@ impl<L: Lays> State<L> {
         let Some(pile) = pile else {
             return Err(Why::NoPile);
         };
-        Ok(match pile.write(cell, value) {
+        Ok(match pile.store.write(cell, value) {
             Ok(()) => Answer::Done,
             Err(fault) => Answer::Refused(Refused::Cell(fault)),
         })
@@ -94,35 +104,27 @@ impl<L: Lays> State<L> {
         Answer::Done
     }
 
-    fn compare(&mut self) -> Result<Answer, Why> {
-        if self.first.pile.is_none() {
-            return Err(Why::NoPile);
-        }
-        let Some(second) = self.second.pile.take() else {
-            return Err(Why::NoSecond);
-        };
-        let Some(first) = self.first.pile.take() else {
-            return Err(Why::NoPile);
-        };
-        let (found, first, second) = compare_piles(first, second);
-        self.first.pile = Some(first);
-        self.second.pile = Some(second);
-        Ok(Answer::Compared(found))
-    }
-
-    fn survey(&self, size: u8) -> Result<Answer, Why> {
+    fn compare(&self) -> Result<Answer, Why> {
         let Some(first) = &self.first.pile else {
             return Err(Why::NoPile);
         };
-        Ok(match survey_piles(first, self.second.pile.as_ref(), size) {
+        let Some(second) = &self.second.pile else {
+            return Err(Why::NoSecond);
+        };
+        Ok(Answer::Compared(compare(first, second)))
+    }
+
+    fn survey(&self, size: u8) -> Result<Answer, Why> {
+        let first = self.first.store().ok_or(Why::NoPile)?;
+        Ok(match survey_piles(first, self.second.store(), size) {
             Ok(()) => Answer::Fit,
             Err(refusal) => refused(refusal),
         })
     }
 
     fn take(&mut self, size: u8) -> Result<Answer, Why> {
-        let first = self.first.pile.take().ok_or(Why::NoPile)?;
-        let standing = Standing::take_over(first, self.second.pile.take(), size);
+        let first = self.first.give().ok_or(Why::NoPile)?;
+        let standing = Standing::take_over(first, self.second.give(), size);
         let size = standing.plain().size();
         self.standing = Some(standing);
         Ok(Answer::Size(size))
@@ -143,8 +145,10 @@ impl<L: Lays> State<L> {
     fn close(&mut self) -> Result<Answer, Why> {
         let standing = self.standing.take().ok_or(Why::NoWarehouse)?;
         let (first, second) = standing.close();
-        self.first.pile = Some(first);
-        self.second.pile = second;
+        self.first.keep(first);
+        if let Some(second) = second {
+            self.second.keep(second);
+        }
         Ok(Answer::Done)
     }
 
@@ -166,7 +170,6 @@ impl<L: Lays> State<L> {
         let standing = self.standing.is_some();
         Some(match command {
             Command::Flat { .. }
-            | Command::Sparse { .. }
             | Command::Layer
             | Command::Write { .. }
             | Command::First
@@ -178,7 +181,6 @@ impl<L: Lays> State<L> {
             | Command::Audit { .. }
                 if standing => { Err(Why::Standing) }
             Command::Flat { bands } => Ok(self.lay_flat(*bands)),
-            Command::Sparse { bands, capacity } => Ok(self.lay_sparse(*bands, *capacity)),
             Command::Layer => self.layer(),
             Command::Write { cell, value } => self.write(*cell, *value),
             Command::First => Ok(self.turn_to(Place::First)),

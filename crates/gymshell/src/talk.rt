@@ -36,6 +36,7 @@ fn obey<L: Lays, W: Write + Drop>(
             }
             None => Err(Why::NoPile),
         },
+        Command::Sparse { bands, capacity } => state.lay_sparse(bands, capacity)?,
         command => match Board::answer(board, &command) {
             Some(answer) => answer,
             None => state.answer(&command),

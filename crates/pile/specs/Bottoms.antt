@@ -10,14 +10,16 @@ use Rattle.store.specs.SparseMeaning.{sparse_means}
 use Rattle.flat.specs.declared.slice.Flat.{Flat}
 use Rattle.flat.specs.FlatMeaning.{flat_means}
 use Rattle.flat.specs.Slice.{GreatestUpTo}
+use Rattle.pile.specs.declared.boxed.Boxed.{Boxed}
+use Rattle.pile.specs.Boxed.{boxed_means}
 use Rattle.pile.specs.declared.either.Either.{Either}
 use Rattle.pile.specs.declared.either.Either.TheVariants.{Left, Right}
 use Rattle.pile.specs.Either.{either_means}
 
-abbrev pub bottom_means : Either Flat Sparse → Meaning
-bottom_means = either_means flat_means sparse_means
+abbrev pub bottom_means : Either Flat (Boxed Sparse) → Meaning
+bottom_means = either_means flat_means (boxed_means sparse_means)
 
-abbrev pub numbers_in : Either Flat Sparse → List ℤ
+abbrev pub numbers_in : Either Flat (Boxed Sparse) → List ℤ
 numbers_in (Left flat) = flat.numbers.now
 numbers_in (Right sparse) = []
 

@@ -1,3 +1,4 @@
 pub mod Either
 pub mod Piles
 pub mod Bottoms
+pub mod Boxed

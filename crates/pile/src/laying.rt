@@ -1,9 +1,10 @@
 // Where the bottoms of piles come from, and go back to: a store is chosen while a program runs, and given up for another.
-ghost use Rattle.std.specs.Prelude.{◌≡◌, ℕ, length};
+ghost use Rattle.std.specs.Prelude.{◌≡◌, ℕ, length, IfOk};
 ghost use Rattle.store.specs.SparseMeaning.{Made};
 ghost use Rattle.pile.specs.Bottoms.{EmptyUpTo, bottom_means};
 
 use crate::bottoms::{Bottom, flat_bottom, into_numbers, sparse_bottom};
+use std::alloc::{AllocError, Global};
 use std::mem::replace;
 use store::interface::Store;
 
@@ -20,8 +21,8 @@ pub trait Lays {
         ensures { EmptyUpTo bands (has self.old) (Self.Bottom.means result) };
 
     /// An empty sparse store; bands and capacity outside their limits become the nearest inside.
-    fn lay_sparse(&mut self, bands: u8, capacity: u16) -> Self::Bottom
-        ensures made { Made bands capacity (Self.Bottom.means result) }
+    fn lay_sparse(&mut self, bands: u8, capacity: u16) -> Result<Self::Bottom, AllocError>
+        ensures made { IfOk result (λ b. Made bands capacity (Self.Bottom.means b)) }
         ensures has { has self.new ≡ has self.old };
 
     /// Takes a bottom back, with the numbers that it had.
@@ -32,14 +33,18 @@ pub trait Lays {
 #[derive(Drop)]
 pub struct Numbers<'a> {
     spare: &'a mut [i64],
+    alloc: Global,
 }
 
 impl<'a> Numbers<'a> {
-    /// A flat store has its cells among these.
-    pub fn new(numbers: &'a mut [i64]) -> Numbers<'a>
+    /// A flat store has its cells among these, and a sparse one its table on the heap.
+    pub fn new(alloc: Global, numbers: &'a mut [i64]) -> Numbers<'a>
         ensures { length result.spare.now ≡ length numbers.old }
     {
-        Numbers { spare: numbers }
+        Numbers {
+            spare: numbers,
+            alloc,
+        }
     }
 }
 
@@ -52,8 +57,8 @@ impl<'a> Lays for Numbers<'a> {
         flat_bottom(replace(&mut self.spare, &mut []), bands)
     }
 
-    fn lay_sparse(&mut self, bands: u8, capacity: u16) -> Bottom<'a> {
-        sparse_bottom(bands, capacity)
+    fn lay_sparse(&mut self, bands: u8, capacity: u16) -> Result<Bottom<'a>, AllocError> {
+        sparse_bottom(self.alloc, bands, capacity)
     }
 
     fn take_back(&mut self, bottom: Bottom<'a>) {

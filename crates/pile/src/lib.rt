@@ -2,6 +2,7 @@
 #![tactic(auto)]
 
 pub mod bottoms;
+pub mod boxed;
 pub mod either;
 pub mod either_store;
 pub mod laying;

@@ -47,6 +47,6 @@ pub fn into_numbers(bottom: Bottom<'_>) -> Option<&mut [i64]>
 {
     match bottom {
         Either::Left(flat) => Some(flat.into_numbers()),
-        Either::Right(_) => None,
+        Either::Right(_sparse) => None,
     }
 }

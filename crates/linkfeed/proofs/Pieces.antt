@@ -1,46 +1,11 @@
--- What is handed on grows by a byte, and ends at a none; and a line that gives none has a piece.
-use Rattle.std.proofs.Common.{◌≡◌, ℕ, zero, suc, ◌+◌, ◌<◌, ◌≤◌, List, [], length, set, Option, Some, None, refl, sym, ◌∙◌, ap, subst, arith, Bool, true, false, take, ◌∷◌, ◌++◌, ◌-◌, length-set}
-use Rattle.std.specs.Prelude.{slice_get}
+-- A line that gives none has a piece, and what is handed on comes before what is still to come.
+use Rattle.std.proofs.Common.{◌≡◌, ℕ, zero, suc, ◌<◌, ◌≤◌, List, [], length, Option, Some, None, refl, sym, subst, arith, Bool, true, false, take, ◌∷◌, ◌++◌, ◌-◌}
 use Rattle.std.proofs.lemmas.Grind.{common_steps}
 use Rattle.std.proofs.lemmas.Option.{gets}
-use Rattle.link.specs.Meaning.{Meaning, IsPolled, IsMoved}
+use Rattle.link.specs.Meaning.{Meaning}
 use Rattle.console.specs.Ends.{Gave}
 use Rattle.linkfeed.specs.Piece.{Piece, Stops, StillGives}
-use Rattle.linkfeed.specs.Handing.{Handed, HandsOn}
-
-moved_on : (n : ℕ) (m now after : Meaning) → IsMoved n m now → IsPolled now after → IsMoved (suc n) m after
-moved_on n m now after moved polled = record {
-  onward = λ k. polled.onward k ∙ moved.onward (suc k) ∙ ap m.comes (omega arith);
-  quiet = polled.quiet ∙ moved.quiet;
-}
-
-module _ (m : Meaning) (buffer : List ℕ) (n : ℕ) (now : Meaning) (buffer' : List ℕ) (handed : Handed m buffer n n now buffer') (after : Meaning) (polled : IsPolled now after) where
-  came_here : m.comes n ≡ now.comes 0
-  came_here = ap m.comes (omega arith) ∙ sym (handed.moved.onward 0)
-
-  pub none_here : now.comes 0 ≡ None → Handed m buffer n (suc n) after buffer' × (m.comes n ≡ None)
-  none_here none = (
-    record {
-      within = handed.within;
-      long = handed.long;
-      came = handed.came;
-      kept = handed.kept;
-      moved = moved_on n m now after handed.moved polled;
-    },
-    came_here ∙ none,
-  )
-
-  came_by : (byte : ℕ) → n < length buffer → now.comes 0 ≡ Some byte → (k : ℕ) → k < suc n → m.comes k ≡ slice_get (set buffer' n byte) k
-  came_by byte room here k below = grind (arith, common_steps, gets, handed.came k, handed.long, came_here, here)
-
-  pub byte_here : (byte : ℕ) → n < length buffer → now.comes 0 ≡ Some byte → Handed m buffer (n + 1) (n + 1) after (set buffer' n byte)
-  byte_here byte room here = record {
-    within = omega arith;
-    long = length-set buffer' n byte ∙ handed.long;
-    came = λ k below. came_by byte room here k (omega arith);
-    kept = λ k past. grind (arith, common_steps, gets, handed.kept k (omega arith));
-    moved = subst (λ polls. IsMoved polls m after) (omega arith) (moved_on n m now after handed.moved polled);
-  }
+use Rattle.linkfeed.specs.Handing.{HandsOn}
 
 -- nothing, where none comes first
 nothing : (gives : ℕ → Option ℕ) → gives 0 ≡ None → Piece gives []

@@ -1,6 +1,6 @@
 // The questions of a warehouse that stands, and what changes it.
 ghost use Rattle.std.specs.Prelude.{◌≡◌, Some, None};
-ghost use Rattle.gymshell.specs.Asking.{reading, trending, asked};
+ghost use Rattle.gymshell.specs.Asking.{asked, reading, refused, trending};
 
 use crate::standing::Standing;
 use haar::trend::Trend;
@@ -12,20 +12,28 @@ use warehouse::fault::Refusal;
 use warehouse::reading::Reading;
 
 // A refusal of the warehouse, as an answer.
-pub fn refused(refusal: Refusal) -> Answer {
+pub fn refused(refusal: Refusal) -> Answer
+    ensures { result ≡ refused refusal }
+{
     Answer::Refused(Refused::Warehouse(refusal))
 }
 
 fn reading(read: Result<Reading, Refusal>) -> Answer
     ensures { result ≡ reading read }
 {
-    read.map_or_else(refused, Answer::Reading)
+    match read {
+        Ok(reading) => Answer::Reading(reading),
+        Err(refusal) => refused(refusal),
+    }
 }
 
 fn trending(told: Result<Trend, Refusal>) -> Answer
     ensures { result ≡ trending told }
 {
-    told.map_or_else(refused, Answer::Trend)
+    match told {
+        Ok(trend) => Answer::Trend(trend),
+        Err(refusal) => refused(refusal),
+    }
 }
 
 // How many cells were written, or the size after a growth.

@@ -3,6 +3,7 @@
 
 mod asking;
 mod board;
+mod lines;
 mod out;
 mod piles;
 mod slot;
@@ -10,9 +11,10 @@ mod standing;
 mod state;
 mod talk;
 
+use lines::{Input, Lines, Spelled};
 use out::Out;
 use pile::laying::Numbers;
-use std::io::{BufRead, BufReader, BufWriter};
+use std::io::BufWriter;
 use std::process::ExitCode;
 use std::{env, io};
 use talk::session;
@@ -23,11 +25,8 @@ const CELLS: usize = 1_118_480;
 // The values of the largest load.
 const VALUES: usize = 4096;
 
-// The lines of an input, or words as lines: whether one of them was answered by a refusal or was wrong.
-fn answered<I: Iterator<Item = io::Result<Vec<u8>>>>(
-    rt: &HostRuntime,
-    lines: &mut I,
-) -> anyhow::Result<bool> {
+// All lines answered: whether one of them was answered by a refusal or was wrong.
+fn answered<I: Lines>(rt: &HostRuntime, lines: &mut I) -> anyhow::Result<bool> {
     let alloc = rt.alloc();
     let mut first = vec![in alloc; 0i64; CELLS]?;
     let mut second = vec![in alloc; 0i64; CELLS]?;
@@ -40,15 +39,16 @@ fn answered<I: Iterator<Item = io::Result<Vec<u8>>>>(
 }
 
 fn run(rt: &HostRuntime) -> anyhow::Result<ExitCode> {
-    let alloc = rt.alloc();
-    let mut words = env::args(rt)?.skip(1).peekable();
-    if words.peek().is_none() {
-        let mut lines = BufReader::new(alloc, rt.stdin())?.split(alloc, b'\n');
-        answered(rt, &mut lines)?;
+    let mut words = Vec::new(rt.alloc());
+    for word in env::args(rt)?.skip(1) {
+        words.push(word.into_bytes())?;
+    }
+    if words.is_empty() {
+        answered(rt, &mut Input::new(rt.alloc(), rt.stdin())?)?;
         return Ok(ExitCode::SUCCESS);
     }
-    let mut lines = words.map(|word| Ok(word.into_bytes()));
-    Ok(if answered(rt, &mut lines)? {
+    words.reverse();
+    Ok(if answered(rt, &mut Spelled { words })? {
         ExitCode::FAILURE
     } else {
         ExitCode::SUCCESS

@@ -1,5 +1,6 @@
 // Lines in, answers out.
 use crate::board::{Board, Given};
+use crate::lines::Lines;
 use crate::out::{Out, print_cells};
 use crate::state::State;
 use anyhow::bail;
@@ -9,7 +10,6 @@ use shell::command::{Command, Spoken};
 use shell::line::read_line;
 use shell::wrong::{LineFault, Why, Wrong};
 use std::alloc::Global;
-use std::io;
 use std::io::Write;
 
 // One command obeyed and its answer printed; and the line that it gave for the link, if it did.
@@ -68,7 +68,7 @@ fn hear<L: Lays, W: Write + Drop>(
 }
 
 // Lines until one gives another line for the link, or until they end.
-fn talk<L: Lays, I: Iterator<Item = io::Result<Vec<u8>>>, W: Write + Drop>(
+fn talk<L: Lays, I: Lines, W: Write + Drop>(
     state: &mut State<L>,
     given: &Given,
     lines: &mut I,
@@ -77,10 +77,10 @@ fn talk<L: Lays, I: Iterator<Item = io::Result<Vec<u8>>>, W: Write + Drop>(
 ) -> anyhow::Result<Option<Given>> {
     let mut board = Board::new(given);
     for _ in 0..u64::MAX {
-        let Some(line) = lines.next() else {
+        let Some(line) = lines.next_line()? else {
             return Ok(None);
         };
-        if let Some(next) = hear(state, &mut board, &line?, out, alloc)? {
+        if let Some(next) = hear(state, &mut board, &line, out, alloc)? {
             return Ok(Some(next));
         }
     }
@@ -88,7 +88,7 @@ fn talk<L: Lays, I: Iterator<Item = io::Result<Vec<u8>>>, W: Write + Drop>(
 }
 
 // All lines, from no pile on, on bottoms laid by these two.
-pub fn session<L: Lays + Drop, I: Iterator<Item = io::Result<Vec<u8>>>, W: Write + Drop>(
+pub fn session<L: Lays + Drop, I: Lines, W: Write + Drop>(
     first: L,
     second: L,
     buffer: Vec<i64>,

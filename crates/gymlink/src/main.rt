@@ -41,7 +41,8 @@ fn shown(captured: &[u8], heap: Global) -> anyhow::Result<Page>
 {
     let mut buffer = buffer(heap)?;
     let mut page = Page::new(heap);
-    play(captured, pile(), SIZE, &mut buffer, &mut page)?;
+    let (_, played) = play(captured, pile(), SIZE, &mut buffer, &mut page);
+    played?;
     Ok(page)
 }
 

@@ -48,56 +48,68 @@ fn hand_over<O: Sink>(sink: &mut O) -> Result<(), RunFault<Infallible, O::Error>
 }
 
 // From the ready byte on: begins, and feeds a warehouse with what the line still has.
-fn serve<S: Store + Drop, O: Sink>(
+fn serve<S: Store, O: Sink>(
     ready: Ready,
     mut line: Captured<'_>,
     store: S,
     size: u8,
     buffer: &mut [i64],
     sink: &mut O,
-) -> Result<(), RunFault<Infallible, O::Error>>
-    ensures { Serves (S.means store) size buffer.old line.entry.bytes O.Sink sink.old sink.new result buffer.new }
+) -> (S, Result<(), RunFault<Infallible, O::Error>>)
+    ensures { Serves S.Store store size buffer.old line.entry.bytes O.Sink sink.old sink.new result.1 result.0 buffer.new }
 {
-    say(sink, READY)?;
+    if let Err(stuck) = say(sink, READY) {
+        return (store, Err(stuck));
+    }
     let feeding = ready.begin(&mut line);
-    say(sink, FEEDING)?;
+    if let Err(stuck) = say(sink, FEEDING) {
+        return (store, Err(stuck));
+    }
     let mut source = LinkSource::new(feeding, line);
-    let fed = feed(&mut source, store, size, buffer, sink);
+    let (store, fed) = feed(&mut source, store, size, buffer, sink);
     let (feeding, _) = source.into_parts();
     let _ = feeding.end();
-    fed
+    (store, fed)
 }
 
-fn greet<S: Store + Drop, O: Sink>(
+fn greet<S: Store, O: Sink>(
     mut line: Captured<'_>,
     store: S,
     size: u8,
     buffer: &mut [i64],
     sink: &mut O,
-) -> Result<(), RunFault<Infallible, O::Error>>
-    ensures { Greets (S.means store) size buffer.old line.entry.bytes O.Sink sink.old sink.new result buffer.new }
+) -> (S, Result<(), RunFault<Infallible, O::Error>>)
+    ensures { Greets S.Store store size buffer.old line.entry.bytes O.Sink sink.old sink.new result.1 result.0 buffer.new }
 {
     match wait(&mut line) {
         Ok(ready) => serve(ready, line, store, size, buffer, sink),
-        Err(refused) => say(sink, refusal(refused.fault)),
+        Err(refused) => (store, say(sink, refusal(refused.fault))),
     }
 }
 
 /// Plays a session over a line that a board once filled with these bytes: the link waits, begins, feeds a warehouse that
 /// is founded on the store at this size, and ends. The sink is told each state of the link and the lines of the feed, or
 /// why the Welcome was refused (32 No motor, 33 Line). The buffer is for the values of a load.
+/// The store comes back: closed, as its feed left it, also with an error; or as it was, if it was never fed.
 /// Open: with an error, what the sink took.
-pub fn play<S: Store + Drop, O: Sink>(
+pub fn play<S: Store, O: Sink>(
     captured: &[u8],
     store: S,
     size: u8,
     buffer: &mut [i64],
     sink: &mut O,
-) -> Result<(), RunFault<Infallible, O::Error>>
-    ensures { Plays (S.means store) size buffer.old captured.now O.Sink sink.old sink.new result buffer.new }
+) -> (S, Result<(), RunFault<Infallible, O::Error>>)
+    ensures { Plays S.Store store size buffer.old captured.now O.Sink sink.old sink.new result.1 result.0 buffer.new }
 {
-    say(sink, WELCOME)?;
-    greet(Captured::new(captured), store, size, buffer, sink)?;
-    say(sink, WELCOME)?;
-    hand_over(sink)
+    if let Err(stuck) = say(sink, WELCOME) {
+        return (store, Err(stuck));
+    }
+    let (store, greeted) = greet(Captured::new(captured), store, size, buffer, sink);
+    if let Err(fault) = greeted {
+        return (store, Err(fault));
+    }
+    if let Err(stuck) = say(sink, WELCOME) {
+        return (store, Err(stuck));
+    }
+    (store, hand_over(sink))
 }

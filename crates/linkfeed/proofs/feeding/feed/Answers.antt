@@ -10,4 +10,4 @@ returns g c =
     let new = c.run.new.source in
     let means = g.L.Line.means in
     let some = still_some new.is_over (means new.line).comes (g.met.L.Stopping.stops new.line) in
-    feeds (g.S.Store.means c.args.store) c.args.size c.args.buffer.now (record { gives = λ s. StillGives s.is_over (means s.line).comes; broken = λ _. ⊥ }) old new (λ broken. broken) some g.O.Sink c.args.sink.now c.run.new.sink c.run.new.buffer c.run.result c.run.ensures
+    feeds g.S.Store c.args.store c.args.size c.args.buffer.now (record { gives = λ s. StillGives s.is_over (means s.line).comes; broken = λ _. ⊥ }) old new (λ broken. broken) some g.O.Sink c.args.sink.now c.run.new.sink c.run.result.0 c.run.new.buffer c.run.result.1 c.run.ensures

@@ -10,6 +10,6 @@ returns g c =
     let took = g.O.Sink.took in
     serves c.args.line.bytes source.is_over (meaning_of source.line).comes c.new-source.ensures.begins
     (λ k. ap (λ (line : Waiting). slice_get line.bytes k) c.new-source.ensures.line ∙ c.begin-feeding.ensures.kept k)
-    (g.S.Store.means c.args.store) c.args.size c.args.buffer.now g.O.Sink c.args.sink.now c.say-2.new.sink c.feed-fed.new.sink c.feed-fed.new.buffer
-    (then (took c.args.sink.now) (took c.say.new.sink) (took c.say-2.new.sink) (codes "Ready\n") (codes "Feeding\n") c.in_ok-say.ensures c.in_ok-say-2.ensures)
-    _ c.feed-fed.result c.feed-fed.ensures
+    g.S.Store c.args.store c.args.size c.args.buffer.now g.O.Sink c.args.sink.now c.say-2.new.sink c.feed-store.new.sink c.feed-store.result.0 c.feed-store.new.buffer
+    (then (took c.args.sink.now) (took c.say.new.sink) (took c.say-2.new.sink) (codes "Ready\n") (codes "Feeding\n") c.in_default.ensures c.in_default-say.ensures)
+    _ c.feed-store.result.1 c.feed-store.ensures

@@ -1,12 +1,13 @@
 -- What a session over a captured line comes to: the link waits, begins, feeds a warehouse, and ends.
 --   Outcome             what is shown on the way, and what the buffer then holds
 --   served .. bs        the outcome where the ready byte came first and bs came after it, on a store with such bands and room
---   greeted .. bs       the outcome where the line has captured bs
+--   greeted .. bs       the outcome where the line has captured bs; greeted_on, by a store's bands and room
 --   Comes               a sink was shown an outcome, and the buffer holds it
 --   Says, Hands         some words were shown, or what was held back handed on, or the sink is stuck
---   FeedRun             all the commands of a feed were obeyed: the store was s and is t, closed as they left it
+--   FeedRun             all the commands of a feed were obeyed: the store was s and is t, which is what they left, closed
 --   Half                none of its commands was obeyed, or those of some first bytes, or all
 --   Fails               why a session does not come to its end, and how far it came
+--   Greeted             the outcome was shown; the store is as its feed left it, closed, or as it was if it was never fed
 --   Serves, Greets      the answer of a session from the ready byte on, and from the first poll on
 --   Plays               the answer of a whole session
 use Rattle.std.specs.Prelude.{◌≡◌, ℕ, ◌^◌, ◌≤◌, ◌⊎◌, List, [], ◌∷◌, ◌++◌, length, ℤ, codes, nat_eq, if◌then◌else◌, Ok, Err, Result}

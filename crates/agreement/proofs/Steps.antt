@@ -14,7 +14,7 @@ use Rattle.agreement.specs.Reply.{reading_reply, trend_reply, reply}
 use Rattle.agreement.specs.Step.{Unchanged, Changes, ChangesBy, Step}
 
 pub unchanged : (v : View) → Unchanged v v
-unchanged v = record { kept = record { size = refl; store = record { bands = refl; cells = λ _ _. refl; room = refl } }; clean = refl }
+unchanged v = record { kept = record { size = refl; mark = refl; store = record { bands = refl; cells = λ _ _. refl; room = refl } }; clean = refl }
 
 -- what is not changed is not changed whether or not the call was refused
 asks : (o : Option Fault) (v : View) (call : Call) → Changes v call v → ChangesBy o v call v
@@ -34,9 +34,9 @@ module _ (v : View) where
   pub trend_step : (j k : ℕ) (r : Result Trend Refusal) → r ≡ trend_answer v j k → Step v (trend j k) (trend_reply r) v
   trend_step j k r e = record { answers = ap trend_reply e; changes = asks (refusal v (trend j k)) v (trend j k) (unchanged v) }
 
-  pub settle_step : (w : View) → w.size ≡ v.size → Settles v.store w.store → Step v settle settled w
+  pub settle_step : (w : View) → w.size ≡ v.size → w.mark ≡ v.mark → Settles v.store w.store → Step v settle settled w
   unfolding refusal
-  settle_step w e s = record { answers = refl; changes = record { size = e; store = s } }
+  settle_step w e q s = record { answers = refl; changes = record { size = e; mark = q; store = s } }
 
   -- an accepted call, and a refused one
   pub accepted : (call : Call) (a : Answer) (w : View) → refusal v call ≡ None → a ≡ reply v call → Changes v call w → Step v call a w

@@ -1,18 +1,18 @@
 -- What one call does to a warehouse and answers.
---   Kept        size, bands, cells and room are as they were
+--   Kept        size, mark, bands, cells and room are as they were
 --   Unchanged   and cleanness too
 --   Spent       room falls by 1 for each cell that became nonzero, and rises by 1 for each that became zero
---   Added       a chunk's values were added
+--   Added       a chunk's values were added, and the mark is no lower than its end
 --   Raised      the size was raised by 1
 --   Settled     the store was settled
 --   Changes     what an accepted call changes
 --   Step        a call, its answer, and the views before and after it
-use Rattle.std.specs.Prelude.{◌≡◌, ℕ, suc, List, [], ◌∷◌, ℤ, pos, ◌+ℤ◌, Some, None, Option}
+use Rattle.std.specs.Prelude.{◌≡◌, ℕ, suc, max, List, [], ◌∷◌, ℤ, pos, ◌+ℤ◌, Some, None, Option}
 use Rattle.haar.specs.Tiles.{cell_count}
 use Rattle.haar.specs.Growth.{Grown}
 use Rattle.store.specs.Meaning.{Meaning, filled, Same, Settles}
 use Rattle.warehouse.specs.declared.fault.Fault.{Fault}
-use Rattle.warehouse.specs.View.{View}
+use Rattle.warehouse.specs.View.{View, end_of}
 use Rattle.agreement.specs.Call.{Call, load, add, grow, settle, point, sum, mean, trend, Answer}
 use Rattle.agreement.specs.Share.{chunk_values, SharesAdded}
 use Rattle.agreement.specs.Check.{total_cell, refusal}
@@ -20,6 +20,7 @@ use Rattle.agreement.specs.Reply.{reply}
 
 pub record Kept (v w : View) : Type 0 where
   pub size : w.size ≡ v.size
+  pub mark : w.mark ≡ v.mark
   pub store : Same v.store w.store
 
 pub record Unchanged (v w : View) : Type 0 where
@@ -32,18 +33,21 @@ Spent s t = t.room +ℤ pos (filled t.cells (cell_count s.bands)) ≡ s.room +�
 -- the values of the chunk of level m and index p
 pub record Added (m p : ℕ) (values : List ℤ) (v w : View) : Type 0 where
   pub size : w.size ≡ v.size
+  pub mark : w.mark ≡ max v.mark (end_of m p)
   pub bands : w.store.bands ≡ v.store.bands
   pub cells : SharesAdded v.store.bands v.size m p values v.store.cells w.store.cells
   pub room : Spent v.store w.store
 
 pub record Raised (v w : View) : Type 0 where
   pub size : w.size ≡ suc v.size
+  pub mark : w.mark ≡ v.mark
   pub bands : w.store.bands ≡ v.store.bands
   pub cells : Grown v.store.bands v.size (v.store.cells (total_cell v.store.bands v.size)) v.store.cells w.store.cells
   pub room : Spent v.store w.store
 
 pub record Settled (v w : View) : Type 0 where
   pub size : w.size ≡ v.size
+  pub mark : w.mark ≡ v.mark
   pub store : Settles v.store w.store
 
 abbrev pub Changes : View → Call → View → Type 0

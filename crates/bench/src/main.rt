@@ -50,7 +50,7 @@ fn on_flat<S: Store + Drop>(
     store: S,
     buffer: &mut [i64],
 ) -> anyhow::Result<()> {
-    let mut flat = Warehouse::take_over(store, 20);
+    let mut flat = Warehouse::take_over(store, 20, 0);
     part(
         rt,
         timed,
@@ -85,7 +85,7 @@ fn on_flat<S: Store + Drop>(
 }
 
 fn on_pile(rt: &HostRuntime, timed: bool, buffer: &mut [i64]) -> anyhow::Result<()> {
-    let mut pile = Warehouse::take_over(HoldBack::new(Sparse::new(3, 1024)), 12);
+    let mut pile = Warehouse::take_over(HoldBack::new(Sparse::new(3, 1024)), 12, 0);
     part(
         rt,
         timed,
@@ -103,7 +103,7 @@ fn on_indexed<S: Store + Drop, I: Store + Drop>(
     index: I,
     buffer: &mut [i64],
 ) -> anyhow::Result<()> {
-    let mut indexed = Indexed::take_over(first, index, 20);
+    let mut indexed = Indexed::take_over(first, index, 20, 0);
     part(
         rt,
         timed,

@@ -8,8 +8,8 @@ use warehouse::record::Warehouse;
 
 #[test]
 fn a_load_and_its_points_agree(rt: HostRuntime) {
-    let mut kept = Warehouse::take_over(Sparse::new(2, 64), 4);
-    let mut fresh = Warehouse::take_over(Sparse::new(2, 64), 4);
+    let mut kept = Warehouse::take_over(Sparse::new(2, 64), 4, 0);
+    let mut fresh = Warehouse::take_over(Sparse::new(2, 64), 4, 0);
     // the load takes the second and the third
     let mut numbers = [9, 3, -1];
     let load = Call::Load {
@@ -36,8 +36,8 @@ fn a_load_and_its_points_agree(rt: HostRuntime) {
 
 #[test]
 fn a_load_that_is_refused_changes_nothing(rt: HostRuntime) {
-    let mut kept = Warehouse::take_over(Sparse::new(2, 64), 4);
-    let fresh = Warehouse::take_over(Sparse::new(2, 64), 4);
+    let mut kept = Warehouse::take_over(Sparse::new(2, 64), 4, 0);
+    let fresh = Warehouse::take_over(Sparse::new(2, 64), 4, 0);
     let mut numbers = [3, -1];
     let short = Call::Load {
         level: 1,

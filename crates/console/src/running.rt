@@ -47,7 +47,7 @@ pub fn run<S: Store, I: Source, O: Sink>(
     if let Err(refusal) = survey(&store, size) {
         return (store, Err(RunFault::Founding(refusal)));
     }
-    let mut warehouse = Warehouse::take_over(store, size);
+    let mut warehouse = Warehouse::take_over(store, size, 0);
     let answer = resume(&mut warehouse, buffer, source, sink);
     (warehouse.close(), answer)
 }

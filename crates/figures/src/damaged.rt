@@ -9,7 +9,7 @@ fn made(sum: i64, difference: i64) -> Warehouse<Sparse> {
     let mut store = Sparse::new(1, 16);
     let _ = store.write(0, sum);
     let _ = store.write(8, difference);
-    Warehouse::take_over(store, 1)
+    Warehouse::take_over(store, 1, 0)
 }
 
 pub(crate) fn ask(rt: &HostRuntime, sum: i64, difference: i64) -> anyhow::Result<()> {

@@ -118,7 +118,7 @@ fn loaded<S: Store + Drop>(
     minutes: &mut [i64],
     case: Case,
 ) -> Result<u32, Refusal> {
-    let mut warehouse = Warehouse::take_over(store, case.size);
+    let mut warehouse = Warehouse::take_over(store, case.size, 0);
     let load = begin(&warehouse, case.level, case.index)?;
     filled(load, buffer, minutes, case)?
         .finish(&mut warehouse, buffer)

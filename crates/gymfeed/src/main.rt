@@ -5,6 +5,7 @@ ghost use Rattle.std.specs.Prelude.{◌≡◌, pos, IfOk, length};
 ghost use Rattle.store.specs.SparseMeaning.{sparse_means};
 ghost use Rattle.holdback.specs.Layer.{layer_means};
 ghost use Rattle.warehouse.specs.Founding.{Founded};
+ghost use Rattle.warehouse.specs.View.{unmarked};
 ghost use Rattle.gymfeed.specs.Feeding.{FedAtFour};
 
 mod standard;
@@ -27,7 +28,7 @@ const VALUES: usize = 4096;
 fn pile() -> HoldBack<Sparse>
     ensures bands { (layer_means sparse_means result).bands ≡ 3 }
     ensures room { (layer_means sparse_means result).room ≡ pos 1024 }
-    ensures founded { Founded (record { size = 4; store = layer_means sparse_means result }) }
+    ensures founded { Founded (unmarked (layer_means sparse_means result) 4) }
 {
     HoldBack::new(Sparse::new(3, 1024))
 }

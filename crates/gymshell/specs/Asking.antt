@@ -3,6 +3,7 @@
 --   asked        what a command answers that is a question; none is no question
 use Rattle.std.specs.Prelude.{ℕ, min, ◌*◌, pos, Some, None, Option, Ok, Err, Result}
 use Rattle.haar.specs.declared.trend.Trend as trends
+use Rattle.store.specs.Free.{free_cells}
 use Rattle.store.specs.Meaning.{Meaning}
 use Rattle.warehouse.specs.declared.fault.Refusal.{Refusal}
 use Rattle.warehouse.specs.declared.reading.Reading.{Reading}
@@ -13,7 +14,7 @@ use Rattle.shell.specs.declared.answer.Answer.{Answer}
 use Rattle.shell.specs.declared.answer.Answer.TheVariants as answers
 use Rattle.shell.specs.declared.answer.Refused.TheVariants as refusals
 use Rattle.shell.specs.declared.command.Command.{Command}
-use Rattle.shell.specs.declared.command.Command.TheVariants.{Size, Point, Sum, Mean, Trend, Busiest}
+use Rattle.shell.specs.declared.command.Command.TheVariants.{Size, Mark, Free, Point, Sum, Mean, Trend, Busiest}
 use Rattle.shell.specs.declared.wrong.Why.{Why}
 use Rattle.shell.specs.declared.wrong.Why.TheVariants.{NoSecond}
 use Rattle.gymshell.specs.declared.standing.Standing.{Standing}
@@ -37,6 +38,8 @@ indexed_reading (Some r) = Ok (reading r)
 
 abbrev pub asked : {S : Type 0} → (S → Meaning) → Standing S → Command → Option (Result Answer Why)
 asked means w Size = Some (Ok (answers.Number (pos (known means (plain_of w)).size)))
+asked means w Mark = Some (Ok (answers.Number (pos (known means (plain_of w)).mark)))
+asked means w Free = Some (Ok (answers.Number (pos (free_cells (means (plain_of w).store)))))
 asked means w (Point i) = Some (Ok (reading (point_answer (known means (plain_of w)) i)))
 asked means w (Sum a b) = Some (Ok (reading (sum_answer (known means (plain_of w)) a b)))
 asked means w (Mean a b) = Some (Ok (reading (mean_answer (known means (plain_of w)) a b)))

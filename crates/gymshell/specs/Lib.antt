@@ -1,4 +1,3 @@
 pub mod Standing
 pub mod Wire
-pub mod Pile
 pub mod Asking

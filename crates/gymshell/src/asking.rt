@@ -12,7 +12,7 @@ use warehouse::fault::Refusal;
 use warehouse::reading::Reading;
 
 // A refusal of the warehouse, as an answer.
-pub fn refused(refusal: Refusal) -> Answer
+pub(crate) fn refused(refusal: Refusal) -> Answer
     ensures { result ≡ refused refusal }
 {
     Answer::Refused(Refused::Warehouse(refusal))
@@ -45,12 +45,17 @@ fn counted<N: Into<i64>>(count: Result<N, Refusal>) -> Answer {
 }
 
 // What a question answers; none is no question.
-pub fn ask<S: Store>(standing: &Standing<S>, command: &Command) -> Option<Result<Answer, Why>>
+pub(crate) fn ask<S: Store>(
+    standing: &Standing<S>,
+    command: &Command,
+) -> Option<Result<Answer, Why>>
     ensures { result ≡ asked S.means standing.now command.now }
 {
     let warehouse = standing.plain();
     Some(Ok(match command {
         Command::Size => Answer::Number(i64::from(warehouse.size())),
+        Command::Mark => Answer::Number(i64::from(warehouse.mark())),
+        Command::Free => Answer::Number(i64::from(warehouse.free_cells())),
         Command::Point { minute } => reading(warehouse.point(*minute)),
         Command::Sum { from, to } => reading(warehouse.sum(*from, *to)),
         Command::Mean { from, to } => reading(warehouse.mean(*from, *to)),
@@ -64,7 +69,7 @@ pub fn ask<S: Store>(standing: &Standing<S>, command: &Command) -> Option<Result
 }
 
 // What a change answers; none is no change.
-pub fn change<S: Store>(
+pub(crate) fn change<S: Store>(
     standing: &mut Standing<S>,
     buffer: &mut [i64],
     command: &Command,

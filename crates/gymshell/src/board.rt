@@ -16,14 +16,14 @@ use std::mem::replace;
 
 // The line that was given: none yet, what a board once sent, or a ring.
 #[derive(Drop)]
-pub enum Given {
+pub(crate) enum Given {
     Nothing,
     Captured(Vec<u8>),
     Ring,
 }
 
 #[derive(Drop)]
-pub enum Wire<'a> {
+pub(crate) enum Wire<'a> {
     Captured(Captured<'a>),
     Ring(Ring),
 }
@@ -78,14 +78,14 @@ fn fill(ring: &mut Ring, bytes: &[u8]) -> usize
 
 // A link, and its line.
 #[derive(Drop)]
-pub struct Board<'a> {
+pub(crate) struct Board<'a> {
     wire: Wire<'a>,
     link: Link,
 }
 
 impl<'a> Board<'a> {
     // The link as new, on the line that was given.
-    pub fn new(given: &'a Given) -> Option<Board<'a>> {
+    pub(crate) fn new(given: &'a Given) -> Option<Board<'a>> {
         let wire = match given {
             Given::Nothing => return None,
             Given::Captured(bytes) => Wire::Captured(Captured::new(bytes)),
@@ -154,7 +154,10 @@ impl<'a> Board<'a> {
     }
 
     // What a command of the link answers; none is another command.
-    pub fn answer(board: &mut Option<Board<'_>>, command: &Command) -> Option<Result<Answer, Why>> {
+    pub(crate) fn answer(
+        board: &mut Option<Board<'_>>,
+        command: &Command,
+    ) -> Option<Result<Answer, Why>> {
         match (board, command) {
             (Some(board), command) => board.turned(command),
             (

@@ -4,19 +4,19 @@ use std::io;
 use std::io::{BufRead, BufReader, Stdin};
 
 // Gives lines, without their newlines, until there is none.
-pub trait Lines {
+pub(crate) trait Lines {
     fn next_line(&mut self) -> io::Result<Option<Vec<u8>>>;
 }
 
 // The lines of standard input. The last may lack its newline.
 #[derive(Drop)]
-pub struct Input {
+pub(crate) struct Input {
     reader: BufReader<Stdin>,
     alloc: Global,
 }
 
 impl Input {
-    pub fn new(alloc: Global, stdin: Stdin) -> io::Result<Input> {
+    pub(crate) fn new(alloc: Global, stdin: Stdin) -> io::Result<Input> {
         Ok(Input {
             reader: BufReader::new(alloc, stdin)?,
             alloc,
@@ -39,7 +39,7 @@ impl Lines for Input {
 
 // Words as lines: the last of them is the first line.
 #[derive(Drop)]
-pub struct Spelled {
+pub(crate) struct Spelled {
     pub words: Vec<Vec<u8>>,
 }
 

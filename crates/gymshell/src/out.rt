@@ -9,14 +9,14 @@ use store::interface::Store;
 
 // Answers as bytes to a writer, and whether one of them was a refusal or a wrong line.
 #[derive(Drop)]
-pub struct Out<W: Write + Drop> {
+pub(crate) struct Out<W: Write + Drop> {
     writer: W,
     alloc: Global,
     pub bad: bool,
 }
 
 impl<W: Write + Drop> Out<W> {
-    pub fn new(alloc: Global, writer: W) -> Out<W> {
+    pub(crate) fn new(alloc: Global, writer: W) -> Out<W> {
         Out {
             writer,
             alloc,
@@ -24,7 +24,7 @@ impl<W: Write + Drop> Out<W> {
         }
     }
 
-    pub fn print(&mut self, answer: Answer) -> anyhow::Result<()> {
+    pub(crate) fn print(&mut self, answer: Answer) -> anyhow::Result<()> {
         if let Answer::Refused(_) | Answer::Wrong(_) = answer {
             self.bad = true;
         }
@@ -34,19 +34,22 @@ impl<W: Write + Drop> Out<W> {
         Ok(())
     }
 
-    pub fn flush(&mut self) -> io::Result<()> {
+    pub(crate) fn flush(&mut self) -> io::Result<()> {
         self.writer.flush()
     }
 }
 
 // Each nonzero cell of a store, by rising number, and how many they are.
-pub fn print_cells<S: Store, W: Write + Drop>(store: &S, out: &mut Out<W>) -> anyhow::Result<()> {
+pub(crate) fn print_cells<S: Store, W: Write + Drop>(
+    store: &S,
+    out: &mut Out<W>,
+) -> anyhow::Result<()> {
     let mut many = 0u32;
     for cell in 0..cell_count(store.bands()) {
         if let Ok(value) = store.read(cell) {
             if value != 0 {
                 out.print(Answer::Cell { cell, value })?;
-                many += 1;
+                many = many.saturating_add(1);
             }
         }
     }

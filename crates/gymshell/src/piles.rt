@@ -1,34 +1,15 @@
 // What is said of a pile.
-ghost use Rattle.store.specs.Meaning.{Lawful};
-ghost use Rattle.gymshell.specs.Pile.{IsDescribed, IsFree};
+ghost use Rattle.std.specs.Prelude.{◌≡◌};
+ghost use Rattle.store.specs.Free.{free_cells};
+ghost use Rattle.shell.specs.declared.answer.Answer.TheVariants as answers;
 
 use shell::answer::Answer;
+use store::free::free_cells;
 use store::interface::Store;
 
-// More cells than any store has.
-const MANY: u32 = 1 << 22;
-
-// The greatest number of cells that may go from zero to nonzero, or 0.
-fn free_cells<S: Store>(store: &S) -> u32
-    requires { Lawful (S.means store.now) }
-    ensures { IsFree (S.means store.now).room result }
-{
-    let mut fit = 0u32;
-    let mut over = MANY;
-    while over - fit > 1 {
-        let middle = fit + (over - fit) / 2;
-        if store.fits(middle) {
-            fit = middle;
-        } else {
-            over = middle;
-        }
-    }
-    fit
-}
-
 // Bands, free cells and cleanness.
-pub fn describe<S: Store>(store: &S) -> Answer
-    ensures { IsDescribed (S.means store.now) result }
+pub(crate) fn describe<S: Store>(store: &S) -> Answer
+    ensures { result ≡ answers.Store (S.means store.now).bands (free_cells (S.means store.now)) (S.means store.now).clean }
 {
     Answer::Store {
         bands: store.bands(),

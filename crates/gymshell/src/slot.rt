@@ -7,19 +7,19 @@ use store::interface::Store;
 use warehouse::record::Warehouse;
 
 #[derive(Drop)]
-pub struct Slot<L: Lays> {
+pub(crate) struct Slot<L: Lays> {
     pub pile: Option<Warehouse<Pile<L::Bottom>>>,
     ground: L,
 }
 
 impl<L: Lays> Slot<L> {
     // No pile yet.
-    pub fn new(ground: L) -> Slot<L> {
+    pub(crate) fn new(ground: L) -> Slot<L> {
         Slot { pile: None, ground }
     }
 
     // The pile, to be looked at.
-    pub fn store(&self) -> Option<&Pile<L::Bottom>> {
+    pub(crate) fn store(&self) -> Option<&Pile<L::Bottom>> {
         match &self.pile {
             Some(kept) => Some(&kept.store),
             None => None,
@@ -27,7 +27,7 @@ impl<L: Lays> Slot<L> {
     }
 
     // The pile, which is not here then.
-    pub fn give(&mut self) -> Option<Pile<L::Bottom>> {
+    pub(crate) fn give(&mut self) -> Option<Pile<L::Bottom>> {
         match self.pile.take() {
             Some(kept) => Some(kept.store),
             None => None,
@@ -35,8 +35,8 @@ impl<L: Lays> Slot<L> {
     }
 
     // A pile comes here.
-    pub fn keep(&mut self, pile: Pile<L::Bottom>) {
-        self.pile = Some(Warehouse::take_over(pile, 0));
+    pub(crate) fn keep(&mut self, pile: Pile<L::Bottom>) {
+        self.pile = Some(Warehouse::take_over(pile, 0, 0));
     }
 
     // The pile that was there goes.
@@ -47,14 +47,14 @@ impl<L: Lays> Slot<L> {
     }
 
     // An empty flat store, in place of the pile that was there.
-    pub fn lay_flat(&mut self, bands: u8) {
+    pub(crate) fn lay_flat(&mut self, bands: u8) {
         self.clear();
         let bottom = self.ground.lay_flat(bands);
         self.keep(pile_of(bottom));
     }
 
     // An empty sparse store, in place of the pile that was there.
-    pub fn lay_sparse(&mut self, bands: u8, capacity: u16) -> Result<(), AllocError> {
+    pub(crate) fn lay_sparse(&mut self, bands: u8, capacity: u16) -> Result<(), AllocError> {
         self.clear();
         let bottom = self.ground.lay_sparse(bands, capacity)?;
         self.keep(pile_of(bottom));
@@ -62,7 +62,7 @@ impl<L: Lays> Slot<L> {
     }
 
     // One layer more on the pile.
-    pub fn layer(&mut self) -> Result<(), Why> {
+    pub(crate) fn layer(&mut self) -> Result<(), Why> {
         let pile = self.pile.take().ok_or(Why::NoPile)?;
         match add_layer(pile.store) {
             Ok(pile) => {

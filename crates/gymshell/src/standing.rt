@@ -1,12 +1,13 @@
 // A warehouse that stands on one pile, or an indexed one that stands on two.
-ghost use Rattle.std.specs.Prelude.{◌≡◌};
+ghost use Rattle.std.specs.Prelude.{◌≡◌, ◌^◌, min};
 ghost use Rattle.store.specs.Meaning.{Settles};
 ghost use Rattle.loads.specs.Addition.{AddsPoint};
 ghost use Rattle.loads.specs.Growing.{Growth};
 ghost use Rattle.loads.specs.Opening.{Finishes};
 ghost use Rattle.agreement.specs.Call.{load, add, grow, settle, settled};
 ghost use Rattle.agreement.specs.Reply.{finish_reply, written_reply, growth_reply};
-ghost use Rattle.gymshell.specs.Standing.{Does, busiest_of, plain_of};
+ghost use Rattle.warehouse.specs.Founding.{cut};
+ghost use Rattle.gymshell.specs.Standing.{Does, IsClosed, busiest_of, plain_of, second_of};
 
 use indexed::founding as twofold;
 use indexed::indexed::Indexed;
@@ -21,13 +22,17 @@ use warehouse::reading::Reading;
 use warehouse::record::Warehouse;
 
 #[derive(Drop)]
-pub enum Standing<S: Store> {
+pub(crate) enum Standing<S: Store> {
     Plain(Warehouse<S>),
     Indexed(Indexed<S, S>),
 }
 
 // Whether a warehouse of this size can be founded on the first pile, or an indexed one on both.
-pub fn survey_piles<S: Store>(first: &S, second: Option<&S>, size: u8) -> Result<(), Refusal> {
+pub(crate) fn survey_piles<S: Store>(
+    first: &S,
+    second: Option<&S>,
+    size: u8,
+) -> Result<(), Refusal> {
     match second {
         None => survey(first, size),
         Some(second) => twofold::survey(first, second, size),
@@ -36,15 +41,23 @@ pub fn survey_piles<S: Store>(first: &S, second: Option<&S>, size: u8) -> Result
 
 impl<S: Store> Standing<S> {
     // On the first pile, or on both, whatever they hold.
-    pub fn take_over(first: S, second: Option<S>, size: u8) -> Standing<S> {
+    pub(crate) fn take_over(first: S, second: Option<S>, size: u8, mark: u32) -> Standing<S>
+        ensures first { (plain_of result).store ≡ first }
+        ensures second { second_of result ≡ second }
+        ensures size { (plain_of result).asked ≡ cut (S.means first) size }
+        ensures mark { (plain_of result).mark ≡ min mark (2 ^ cut (S.means first) size) }
+    {
         match second {
-            None => Standing::Plain(Warehouse::take_over(first, size)),
-            Some(second) => Standing::Indexed(Indexed::take_over(first, second, size)),
+            None => Standing::Plain(Warehouse::take_over(first, size, mark)),
+            Some(second) => Standing::Indexed(Indexed::take_over(first, second, size, mark)),
         }
     }
 
     // The piles, settled.
-    pub fn close(self) -> (S, Option<S>) {
+    pub(crate) fn close(self) -> (S, Option<S>)
+        ensures first { S.settled (plain_of self).store result.0 }
+        ensures second { IsClosed S.settled (second_of self) result.1 }
+    {
         match self {
             Standing::Plain(warehouse) => (warehouse.close(), None),
             Standing::Indexed(warehouse) => {
@@ -55,7 +68,7 @@ impl<S: Store> Standing<S> {
     }
 
     // The warehouse of the first pile.
-    pub fn plain(&self) -> &Warehouse<S>
+    pub(crate) fn plain(&self) -> &Warehouse<S>
         ensures { result.now ≡ plain_of self.now }
     {
         match self {
@@ -65,14 +78,14 @@ impl<S: Store> Standing<S> {
     }
 
     // The second pile, where one is used.
-    pub fn second(&self) -> Option<&S> {
+    pub(crate) fn second(&self) -> Option<&S> {
         match self {
             Standing::Plain(_) => None,
             Standing::Indexed(warehouse) => Some(warehouse.second()),
         }
     }
 
-    pub fn add_point(&mut self, minute: u32, value: i64) -> Result<u32, Refusal>
+    pub(crate) fn add_point(&mut self, minute: u32, value: i64) -> Result<u32, Refusal>
         ensures { Does S.means self.old (λ v v'. AddsPoint v minute value result v') (add minute value) (written_reply result) self.new }
     {
         match self {
@@ -81,7 +94,7 @@ impl<S: Store> Standing<S> {
         }
     }
 
-    pub fn grow(&mut self) -> Result<u8, Refusal>
+    pub(crate) fn grow(&mut self) -> Result<u8, Refusal>
         ensures { Does S.means self.old (λ v v'. Growth v result v') grow (growth_reply result) self.new }
     {
         match self {
@@ -90,8 +103,8 @@ impl<S: Store> Standing<S> {
         }
     }
 
-    pub fn settle(&mut self)
-        ensures { Does S.means self.old (λ v v'. Settles v.store v'.store) settle settled self.new }
+    pub(crate) fn settle(&mut self)
+        ensures { Does S.means self.old (λ v v'. (v'.mark ≡ v.mark) × Settles v.store v'.store) settle settled self.new }
     {
         match self {
             Standing::Plain(warehouse) => warehouse.settle(),
@@ -100,7 +113,7 @@ impl<S: Store> Standing<S> {
     }
 
     // The largest minute of a range, where a second pile has an index.
-    pub fn busiest(&self, from: u32, to: u32) -> Option<Result<Reading, Refusal>>
+    pub(crate) fn busiest(&self, from: u32, to: u32) -> Option<Result<Reading, Refusal>>
         ensures { result ≡ busiest_of S.means self.now from to }
     {
         match self {
@@ -119,7 +132,7 @@ impl<S: Store> Standing<S> {
     }
 
     // A load with these values, begun and finished; where one is refused, or the finish is, it is given up.
-    pub fn load(
+    pub(crate) fn load(
         &mut self,
         level: u8,
         index: u32,

@@ -21,7 +21,7 @@ enum Place {
 }
 
 #[derive(Drop)]
-pub struct State<L: Lays> {
+pub(crate) struct State<L: Lays> {
     first: Slot<L>,
     second: Slot<L>,
     place: Place,
@@ -33,7 +33,7 @@ pub struct State<L: Lays> {
 
 impl<L: Lays> State<L> {
     // No pile yet; the commands speak of the first.
-    pub fn new(first: L, second: L, buffer: Vec<i64>) -> State<L> {
+    pub(crate) fn new(first: L, second: L, buffer: Vec<i64>) -> State<L> {
         State {
             first: Slot::new(first),
             second: Slot::new(second),
@@ -44,7 +44,7 @@ impl<L: Lays> State<L> {
     }
 
     // The pile of which commands speak, also while a warehouse stands on it.
-    pub fn pile(&self) -> Option<&Pile<L::Bottom>> {
+    pub(crate) fn pile(&self) -> Option<&Pile<L::Bottom>> {
         match (&self.standing, self.place) {
             (None, Place::First) => self.first.store(),
             (None, Place::Second) => self.second.store(),
@@ -62,7 +62,7 @@ impl<L: Lays> State<L> {
     }
 
     // An empty sparse store, in place of the pile that was there; an Err is want of memory.
-    pub fn lay_sparse(
+    pub(crate) fn lay_sparse(
         &mut self,
         bands: u8,
         capacity: u16,
@@ -122,9 +122,9 @@ impl<L: Lays> State<L> {
         })
     }
 
-    fn take(&mut self, size: u8) -> Result<Answer, Why> {
+    fn take(&mut self, size: u8, mark: u32) -> Result<Answer, Why> {
         let first = self.first.give().ok_or(Why::NoPile)?;
-        let standing = Standing::take_over(first, self.second.give(), size);
+        let standing = Standing::take_over(first, self.second.give(), size, mark);
         let size = standing.plain().size();
         self.standing = Some(standing);
         Ok(Answer::Size(size))
@@ -132,7 +132,7 @@ impl<L: Lays> State<L> {
 
     fn found(&mut self, size: u8) -> Result<Answer, Why> {
         match self.survey(size)? {
-            Answer::Fit => self.take(size),
+            Answer::Fit => self.take(size, 0),
             refusal => Ok(refusal),
         }
     }
@@ -188,7 +188,7 @@ impl<L: Lays> State<L> {
             Command::Compare => self.compare(),
             Command::Survey { size } => self.survey(*size),
             Command::Found { size } => self.found(*size),
-            Command::Take { size } => self.take(*size),
+            Command::Take { size, mark } => self.take(*size, *mark),
             Command::Audit { size } => self.audit(*size),
             _ => return None,
         })
@@ -209,7 +209,7 @@ impl<L: Lays> State<L> {
     }
 
     // What a command of the piles or the warehouse answers, or why it is not allowed now.
-    pub fn answer(&mut self, command: &Command) -> Result<Answer, Why> {
+    pub(crate) fn answer(&mut self, command: &Command) -> Result<Answer, Why> {
         if let Command::Help = command {
             return Ok(Answer::Help);
         }

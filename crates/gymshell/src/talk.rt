@@ -88,7 +88,7 @@ fn talk<L: Lays, I: Lines, W: Write + Drop>(
 }
 
 // All lines, from no pile on, on bottoms laid by these two.
-pub fn session<L: Lays + Drop, I: Lines, W: Write + Drop>(
+pub(crate) fn session<L: Lays + Drop, I: Lines, W: Write + Drop>(
     first: L,
     second: L,
     buffer: Vec<i64>,

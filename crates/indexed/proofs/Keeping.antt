@@ -133,8 +133,8 @@ module _ (origin : Piles) (t : Tally) (v : Piles) (k : Keeps origin t v) where
       cases_le : (a b : ℕ) → (a ≤ b) ⊎ (b < a)
       cases_le a b = ⊎_elim (λ lt. inr lt) (λ le. inl le) (cases_lt b a)
 
-  grown_keeps : (w : Piles) → Rewritten v (growth_change v.first.size) w → plain-keeping.Keeps origin.first.store (record { size = suc t.size; minutes = t.minutes }) w.first → Keeps origin (record { size = suc t.size; minutes = t.minutes }) w
-  grown_keeps = rewritten_keeps (growth_change v.first.size) (record { size = suc t.size; minutes = t.minutes }) (ap suc k.first.size) grown_known grown_met
+  grown_keeps : (w : Piles) → Rewritten v (growth_change v.first.size) w → plain-keeping.Keeps origin.first.store (record { size = suc t.size; mark = t.mark; minutes = t.minutes }) w.first → Keeps origin (record { size = suc t.size; mark = t.mark; minutes = t.minutes }) w
+  grown_keeps = rewritten_keeps (growth_change v.first.size) (record { size = suc t.size; mark = t.mark; minutes = t.minutes }) (ap suc k.first.size) grown_known grown_met
 
   -- an accepted call
   pub index_keeps : (call : Call) (w : Piles) → IndexChanges v call w → plain-keeping.Keeps origin.first.store (enter t call) w.first → Keeps origin (enter t call) w

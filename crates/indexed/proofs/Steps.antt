@@ -69,11 +69,11 @@ module _ (v : Piles) where
   busiest_step : (a b : ℕ) (r : Result Reading Refusal) → r ≡ busiest_answer v a b → Step v (busiest a b) (reading_reply r) v
   busiest_step a b r e = record { answers = ap reading_reply e; changes = asks (refusal v (busiest a b)) (busiest a b) (unchanged v) }
 
-founded : (m i : Meaning) (n : ℕ) (r : Result Unit Refusal) → Surveys m i n r → r ≡ Ok tt → Founded (piles (view m (cut m n)) i) × Begins (founding (piles (view m (cut m n)) i))
+founded : (m i : Meaning) (n : ℕ) (r : Result Unit Refusal) → Surveys m i n r → r ≡ Ok tt → Founded (piles (view m (cut m n) 0) i) × Begins (founding (piles (view m (cut m n) 0) i))
 founded m i n r s e =
     let f : Surveyed m i n (Ok tt) = subst (λ q. Surveyed m i n (fault_alone q)) e s.found in
-    let v : Founded (piles (view m (cut m n)) i) = record { first = (founds m n f.first).0; bands = f.bands; empty = f.empty; room = f.room } in
-    (v, founded_begins (piles (view m (cut m n)) i) v)
+    let v : Founded (piles (view m (cut m n) 0) i) = record { first = (founds m n f.first).0; bands = f.bands; empty = f.empty; room = f.room } in
+    (v, founded_begins (piles (view m (cut m n) 0) i) v)
 
 pub steps : StepsHold
 steps = record { found = founded; point = point_step; sum = sum_step; mean = mean_step; trend = trend_step; busiest = busiest_step }

@@ -26,7 +26,7 @@ use Rattle.indexed.proofs.Sound.{sound}
 founded : Founded gym
 founded =
     record {
-      first = record { sized = record { some = omega arith; fits = omega arith }; empty = λ d h. refl; room = omega (arith, ints) };
+      first = record { sized = record { some = omega arith; fits = omega arith }; unmarked = refl; empty = λ d h. refl; room = omega (arith, ints) };
       bands = refl;
       empty = λ d h. refl;
       room = omega (arith, ints);

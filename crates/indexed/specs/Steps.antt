@@ -17,8 +17,8 @@ use Rattle.indexed.specs.Step.{plain, busiest, Step}
 use Rattle.indexed.specs.History.{founding, Begins}
 
 pub record StepsHold : Type 0 where
-  -- two stores that a survey accepted, taken over with that size, are founded, and begin with no data
-  pub found : (m i : Meaning) (n : ℕ) (r : Result Unit Refusal) → Surveys m i n r → r ≡ Ok tt → Founded (piles (view m (cut m n)) i) × Begins (founding (piles (view m (cut m n)) i))
+  -- two stores that a survey accepted, taken over with that size and the mark 0, are founded, and begin with no data
+  pub found : (m i : Meaning) (n : ℕ) (r : Result Unit Refusal) → Surveys m i n r → r ≡ Ok tt → Founded (piles (view m (cut m n) 0) i) × Begins (founding (piles (view m (cut m n) 0) i))
   pub point : (v : Piles) (i : ℕ) (r : Result Reading Refusal) → r ≡ point_answer v.first i → Step v (plain (point i)) (reading_reply r) v
   pub sum : (v : Piles) (a b : ℕ) (r : Result Reading Refusal) → r ≡ sum_answer v.first a b → Step v (plain (sum a b)) (reading_reply r) v
   pub mean : (v : Piles) (a b : ℕ) (r : Result Reading Refusal) → r ≡ mean_answer v.first a b → Step v (plain (mean a b)) (reading_reply r) v

@@ -16,7 +16,7 @@ abbrev pub blank : Meaning
 blank = record { bands = 2; cells = λ _. pos 0; room = pos 64; clean = true }
 
 abbrev pub gym : Piles
-gym = record { first = record { size = 2; store = blank }; index = blank }
+gym = record { first = record { size = 2; mark = 0; store = blank }; index = blank }
 
 -- four minutes below zero, the largest is -1; then eight, of which four are 0
 abbrev pub worked_1 : History

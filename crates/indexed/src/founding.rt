@@ -1,5 +1,5 @@
 // Founding an indexed warehouse, and closing it.
-ghost use Rattle.std.specs.Prelude.{◌≡◌};
+ghost use Rattle.std.specs.Prelude.{◌≡◌, ◌^◌, min};
 ghost use Rattle.store.specs.Meaning.{Settles};
 ghost use Rattle.warehouse.specs.Founding.{cut};
 ghost use Rattle.indexed.specs.Doing.{Surveys};
@@ -27,14 +27,15 @@ pub fn survey<S: Store, I: Store>(first: &S, index: &I, size: u8) -> Result<(), 
 }
 
 impl<S: Store, I: Store> Indexed<S, I> {
-    /// On the two stores, whatever they hold; the size is cut to what the first one's bands can have.
-    pub fn take_over(first: S, index: I, size: u8) -> Indexed<S, I>
+    /// On the two stores, whatever they hold; the size is cut to what the first one's bands can have, and the mark to its end.
+    pub fn take_over(first: S, index: I, size: u8, mark: u32) -> Indexed<S, I>
         ensures first { result.first.store ≡ first }
         ensures index { result.index.store ≡ index }
         ensures size { result.first.asked ≡ cut (S.means first) size }
+        ensures mark { result.first.mark ≡ min mark (2 ^ cut (S.means first) size) }
     {
         Indexed {
-            first: Warehouse::take_over(first, size),
+            first: Warehouse::take_over(first, size, mark),
             index: Index { store: index },
         }
     }

@@ -31,16 +31,16 @@ kept_written : (ws : List Entry) (s t : Flat) → Written FlatPuts ws s t → Ke
 kept_written = written_keeps FlatPuts Kept kept_itself kept_on (λ s t c v p. record { loan = p.loan; bands = p.bands; past = p.past })
 
 pub kept_added : {E : Type 0} (w w' : Warehouse Flat) (m p : ℕ) (zs : List ℤ) (r : Result ℕ E) → AddedTo flat_means FlatPuts w m p zs r w' → Kept w.store w'.store
-kept_added w w' m p zs (Ok _) a = kept_written a.1.writes _ _ a.1.written
+kept_added w w' m p zs (Ok _) a = kept_written a.2.writes _ _ a.2.written
 kept_added w w' m p zs (Err _) e = kept_same _ _ (ap (λ x. x.store) e)
 
 pub kept_grown : {E : Type 0} (w w' : Warehouse Flat) (r : Result ℕ E) → GrownTo flat_means FlatPuts w r w' → Kept w.store w'.store
-kept_grown w w' (Ok _) a = kept_written _ _ _ a.1
+kept_grown w w' (Ok _) a = kept_written _ _ _ a.2
 kept_grown w w' (Err _) e = kept_same _ _ (ap (λ x. x.store) e)
 
 -- what is known of a warehouse that was taken over
-pub taken : (s : Flat) (w : Warehouse Flat) (size : ℕ) → w.store ≡ s → w.asked ≡ cut (flat_means s) size → known flat_means w ≡ view (flat_means s) (cut (flat_means s) size)
-taken s w size e a = ap₂ (λ (x : Flat) (n : ℕ). view (flat_means x) n) e a
+pub taken : (s : Flat) (w : Warehouse Flat) (size : ℕ) → w.store ≡ s → w.asked ≡ cut (flat_means s) size → w.mark ≡ 0 → known flat_means w ≡ view (flat_means s) (cut (flat_means s) size) 0
+taken s w size e a z = λ t. view (flat_means (e t)) (a t) (z t)
 
 -- a slice from whose numbers the store s was made, once s has become t and its loan is over
 pub holds : (zs ys : List ℤ) (s t : Flat) → s.numbers.now ≡ zs → Kept s t → ys ≡ t.numbers.now → Holds zs ys (flat_means t)

@@ -32,7 +32,7 @@ pub record Played (m : Meaning) (size : ℕ) (l : OpenLoad) (buffer : List ℤ) 
   pub loaded : View
   pub grown : View
   pub settled : Meaning
-  pub load : Finishes l (view m (cut m size)) buffer r loaded
+  pub load : Finishes l (view m (cut m size) 0) buffer r loaded
   pub growth : Growth loaded q grown
   pub settle : Settles grown.store settled
   pub close : Settles settled n

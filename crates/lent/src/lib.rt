@@ -19,7 +19,7 @@ fn play_on(store: &mut Flat<'_>, size: u8, load: OpenLoad, buffer: &mut [i64]) -
     ensures kept { Kept store.old store.new }
     ensures played { Played (flat_means store.old) size load buffer.old result.0 result.1 (flat_means store.new) }
 {
-    let mut warehouse = Warehouse::take_over(replace(store, Flat::new(&mut [])), size);
+    let mut warehouse = Warehouse::take_over(replace(store, Flat::new(&mut [])), size, 0);
     let loaded = load.finish(&mut warehouse, buffer);
     let grown = grow(&mut warehouse);
     warehouse.settle();

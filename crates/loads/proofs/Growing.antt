@@ -1,5 +1,5 @@
 -- The cells of a growth, and writing the total to them.
-use Rattle.std.proofs.Common.{◌≡◌, ℕ, zero, suc, ◌+◌, ◌-◌, ◌*◌, ◌/◌, ◌<◌, min, Bool, true, false, cond, [], ◌∷◌, ℤ, pos, ◌+ℤ◌, ◌≤ℤ◌, Some, None, Option, sym, refl, ap, ◌∙◌, subst, inl, inr, ⊎_elim, ◌⊎◌, arith, pow_pos}
+use Rattle.std.proofs.Common.{◌≡◌, ℕ, zero, suc, ◌+◌, ◌-◌, ◌*◌, ◌/◌, ◌<◌, ◌≤◌, ◌^◌, min, Bool, true, false, cond, [], ◌∷◌, ℤ, pos, ◌+ℤ◌, ◌≤ℤ◌, Some, None, Option, sym, refl, ap, ◌∙◌, subst, inl, inr, ⊎_elim, ◌⊎◌, arith, pow_pos, pow-suc}
 use Rattle.std.proofs.lemmas.Int.{ints}
 use Rattle.std.proofs.lemmas.Bool.{cases_eq}
 use Rattle.std.proofs.lemmas.Bool.Decides.{nat_tests}
@@ -13,7 +13,7 @@ use Rattle.store.specs.declared.entry.Entry.{Entry}
 use Rattle.store.specs.Meaning.{Meaning, weight, filled, Bars, Put}
 use Rattle.store.specs.Writing.{entry, Rising}
 use Rattle.store.proofs.Counting.{put_keeps}
-use Rattle.warehouse.specs.View.{View}
+use Rattle.warehouse.specs.View.{View, view}
 use Rattle.loads.specs.Loads.{Small}
 use Rattle.loads.specs.Growing.{total_cell, top_cell, tile_cell, fills, newly, total_of, total_writes, Topped, Grew}
 
@@ -193,19 +193,22 @@ module _ (m m₁ m' : Meaning) (T n at : ℕ) (total z : ℤ) (b : m.bands ≡ T
       elim f [ inl p ↦ topped_both m m₁ m' n total under p.0 p.1 q' | inr p ↦ topped_alone m m' n total under p.0 (subst (λ x. Put x (top_cell m.bands n) total m') p.1 q') ]
 
 -- a growth whose checks read the store m₁, and whose writing found it again as m₂
-module _ (v : View) (m₁ m₂ m₃ : Meaning) (first : m₁ ≡ v.store) (second : m₂ ≡ m₁) (n n₁ n₂ T T₁ more : ℕ) (total : ℤ) (size : n ≡ v.size) (size₁ : n₁ ≡ n) (size₂ : n₂ ≡ n) (bands : T ≡ v.store.bands) (bands₁ : m₁.bands ≡ T₁) where
-  pub grew : n < 4 * T → total ≡ m₁.cells (total_cell T₁ n₁) → Small total → more ≡ newly T₁ n₁ total m₁.cells → pos more ≤ℤ m₁.room → Topped n₂ total m₂ m₃ → Grew v (n + 1) (record { size = min (n + 1) (4 * m₃.bands); store = m₃ })
+module _ (v : View) (m₁ m₂ m₃ : Meaning) (first : m₁ ≡ v.store) (second : m₂ ≡ m₁) (n n₁ n₂ T T₁ more : ℕ) (total : ℤ) (mark : ℕ) (marked : mark ≡ v.mark) (most : v.mark ≤ 2 ^ v.size) (size : n ≡ v.size) (size₁ : n₁ ≡ n) (size₂ : n₂ ≡ n) (bands : T ≡ v.store.bands) (bands₁ : m₁.bands ≡ T₁) where
+  pub grew : n < 4 * T → total ≡ m₁.cells (total_cell T₁ n₁) → Small total → more ≡ newly T₁ n₁ total m₁.cells → pos more ≤ℤ m₁.room → Topped n₂ total m₂ m₃ → Grew v (n + 1) (view m₃ (n + 1) mark)
   grew below is small count fits topped =
       let b : T₁ ≡ v.store.bands = sym bands₁ ∙ ap (λ m. m.bands) first in
       let e : n₁ ≡ v.size = size₁ ∙ size in
       let t : total ≡ total_of v = is ∙ (λ j. (first j).cells (total_cell (b j) (e j))) in
       let k : more ≡ newly v.store.bands v.size (total_of v) v.store.cells = count ∙ (λ j. newly (b j) (e j) (t j) (first j).cells) in
       let b₂ : m₂.bands ≡ v.store.bands = ap (λ m. m.bands) (second ∙ first) in
+      let up : min (n + 1) (4 * m₃.bands) ≡ suc v.size = omega (arith, topped.bands, b₂, bands, size) in
+      let marked_up : min mark (2 ^ min (n + 1) (4 * m₃.bands)) ≡ v.mark = rw (up, pow-suc) (omega (arith, marked, most)) in
       record {
         below = omega (arith, bands, size);
         small = subst Small t small;
         fits = subst (λ x. pos x ≤ℤ v.store.room) k (subst (λ m. pos more ≤ℤ m.room) first fits);
         answered = omega (arith, size);
-        size = omega (arith, topped.bands, b₂, bands, size);
+        size = up;
+        mark = marked_up;
         topped = subst (λ x. Topped x (total_of v) v.store m₃) (size₂ ∙ size) (subst (λ x. Topped n₂ x v.store m₃) t (subst (λ m. Topped n₂ total m m₃) (second ∙ first) topped));
       }

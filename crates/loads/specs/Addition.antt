@@ -3,14 +3,14 @@
 --   Limit z       a value within its limits
 --   Refuses       why a fault is the answer: it is the first in the order of checks
 --   Additions     what the call answers, and the view after it
-use Rattle.std.specs.Prelude.{◌≡◌, ℕ, ◌-◌, ◌^◌, ◌<◌, ◌≤◌, List, [], ◌∷◌, ℤ, pos, neg_ℤ, ◌≤ℤ◌, ◌<ℤ◌, Ok, Err, Result, slice_index_or}
+use Rattle.std.specs.Prelude.{◌≡◌, ℕ, ◌-◌, ◌^◌, ◌<◌, ◌≤◌, max, List, [], ◌∷◌, ℤ, pos, neg_ℤ, ◌≤ℤ◌, ◌<ℤ◌, Ok, Err, Result, slice_index_or}
 use Rattle.store.specs.declared.fault.CellFault.TheVariants as cell
 use Rattle.warehouse.specs.declared.fault.Fault.{Fault}
 use Rattle.warehouse.specs.declared.fault.Fault.TheVariants.{Cell, Level, Value, Buffer, Range, Interval, Size, Domain, Large, Full, Top, Short, Over, Torn, Dirty, Fine}
 use Rattle.warehouse.specs.declared.fault.Asked.TheVariants.{Minute}
 use Rattle.warehouse.specs.declared.fault.Refusal.{Refusal}
 use Rattle.warehouse.specs.Faults.{fault_alone, Repeats}
-use Rattle.warehouse.specs.View.{View}
+use Rattle.warehouse.specs.View.{View, end_of}
 use Rattle.loads.specs.Share.{minutes}
 use Rattle.loads.specs.Adds.{Crowded, Took}
 use Rattle.loads.specs.Loads as loads
@@ -55,6 +55,7 @@ pub record Accepts (v : View) (m p : ℕ) (zs : List ℤ) (w : ℕ) (v' : View) 
   pub some : 1 ≤ v.store.bands
   pub took : Took v.store.bands v.size m p (minutes m p zs) v.store w v'.store
   pub size : v'.size ≡ v.size
+  pub mark : v'.mark ≡ max v.mark (end_of m p)
 
 abbrev pub Additions : View → ℕ → ℕ → List ℤ → Result ℕ Fault → View → Type 0
 Additions v m p zs (Ok w) v' = Accepts v m p zs w v'

@@ -86,6 +86,7 @@ pub record Grew (v : View) (answer : ℕ) (v' : View) : Type 0 where
   pub fits : pos (newly v.store.bands v.size (total_of v) v.store.cells) ≤ℤ v.store.room
   pub answered : answer ≡ suc v.size
   pub size : v'.size ≡ suc v.size
+  pub mark : v'.mark ≡ v.mark
   pub topped : Topped v.size (total_of v) v.store v'.store
 
 abbrev pub Grows : View → Result ℕ Fault → View → Type 0
@@ -100,5 +101,5 @@ pub record Growth (v : View) (r : Result ℕ Refusal) (v' : View) : Type 0 where
 -- an accepted growth wrote the total; a refused one left the warehouse as it was
 abbrev pub GrownTo : {S E : Type 0} → (S → Meaning) → Putting S → Warehouse S → Result ℕ E → Warehouse S → Type 0
 GrownTo means puts w (Ok n) w' =
-    (w'.asked ≡ n) × Written puts (growth_writes (known means w)) w.store w'.store
+    (w'.asked ≡ n) × (w'.mark ≡ (known means w).mark) × Written puts (growth_writes (known means w)) w.store w'.store
 GrownTo means puts w (Err _) w' = w' ≡ w

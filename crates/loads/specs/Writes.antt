@@ -5,7 +5,7 @@
 --   Underway   a load that the store takes has written the touched cells below `from`
 --   WroteAll   it is s after all of them
 --   AddedTo    an accepted addition of a chunk with the values zs wrote them all; a refused one left the warehouse as it was
-use Rattle.std.specs.Prelude.{◌≡◌, ℕ, ◌<◌, List, ℤ, ◌+ℤ◌, Ok, Err, Result}
+use Rattle.std.specs.Prelude.{◌≡◌, ℕ, ◌<◌, max, List, ℤ, ◌+ℤ◌, Ok, Err, Result}
 use Rattle.std.specs.List.{All, Contains}
 use Rattle.haar.specs.declared.coefficient.Coefficient.{Coefficient}
 use Rattle.haar.specs.Tiles.{cell_number, cell_count}
@@ -13,7 +13,7 @@ use Rattle.store.specs.declared.entry.Entry.{Entry}
 use Rattle.store.specs.Meaning.{Meaning}
 use Rattle.store.specs.Writing.{Putting, Rising, Written}
 use Rattle.warehouse.specs.declared.record.Warehouse.{Warehouse}
-use Rattle.warehouse.specs.View.{known}
+use Rattle.warehouse.specs.View.{known, end_of}
 use Rattle.loads.specs.Reach.{Meets, Takes}
 use Rattle.loads.specs.Passes.{Partly}
 use Rattle.loads.specs.Share.{minutes}
@@ -45,5 +45,6 @@ WroteAll means puts T n m p g s t = Wrote puts T n m p g (means s).cells s t (ce
 abbrev pub AddedTo : {S E : Type 0} → (S → Meaning) → Putting S → Warehouse S → ℕ → ℕ → List ℤ → Result ℕ E → Warehouse S → Type 0
 AddedTo means puts w m p zs (Ok _) w' =
     (w'.asked ≡ w.asked)
+    × (w'.mark ≡ max (known means w).mark (end_of m p))
     × WroteAll means puts (means w.store).bands (known means w).size m p (minutes m p zs) w.store w'.store
 AddedTo means puts w m p zs (Err _) w' = w' ≡ w

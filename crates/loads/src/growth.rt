@@ -97,6 +97,7 @@ fn raise<S: Store, B: Beside<S>>(warehouse: &mut Warehouse<S>, beside: &mut B) -
     ensures grows { GrowsBeside B.grows beside.old (known S.means warehouse.old) result beside.new (known S.means warehouse.new) }
 {
     let size = warehouse.size();
+    let mark = warehouse.mark();
     let bands = warehouse.store.bands();
     if size >= 4 * bands {
         return Err(Fault::Top);
@@ -114,6 +115,8 @@ fn raise<S: Store, B: Beside<S>>(warehouse: &mut Warehouse<S>, beside: &mut B) -
     let mut cells = GrowthCells::of(&mut warehouse.store, size);
     cells.write(total);
     warehouse.asked = size + 1;
+    // as it was cut to the size before
+    warehouse.mark = mark;
     Ok(size + 1)
 }
 

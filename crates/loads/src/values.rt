@@ -1,6 +1,7 @@
 // Adding a chunk's values: the checks in their order, and the writing.
-ghost use Rattle.std.specs.Prelude.{◌≡◌, ℕ, ◌-◌, ◌*◌, ◌^◌, ◌<◌, ◌≤◌, true, false, length, pos, MatchOption, slice_index_or};
-ghost use Rattle.warehouse.specs.View.{known};
+ghost use Rattle.std.specs.Prelude.{◌≡◌, ℕ, ◌-◌, ◌*◌, ◌^◌, ◌<◌, ◌≤◌, max, true, false, length, pos, MatchOption, slice_index_or};
+ghost use Rattle.haar.specs.Places.{InSize};
+ghost use Rattle.warehouse.specs.View.{known, end_of};
 ghost use Rattle.loads.specs.Addition.{Limit, Limited};
 ghost use Rattle.loads.specs.Writes.{AddedTo};
 ghost use Rattle.loads.specs.Beside.{AddsBeside};
@@ -25,7 +26,17 @@ fn first_outside(values: &[i64]) -> Option<u32>
     u32::try_from(place).ok()
 }
 
+// The mark when the minutes of the interval are covered too.
+fn covered<S: Store>(warehouse: &Warehouse<S>, level: u8, index: u32) -> u32
+    requires { InSize (known S.means warehouse.now).size level index }
+    ensures is { result ≡ max (known S.means warehouse.now).mark (end_of level index) }
+    ensures most { result ≤ 2 ^ (known S.means warehouse.now).size }
+{
+    warehouse.mark().max((index + 1) << level)
+}
+
 // Level and index stay apart, since there is no `Reach` yet: `finished` takes them out of its open load, and only `add_point` would make a struct.
+#[tactic(auto, using(warehouse::proofs::Marks::kept))]
 pub(crate) fn add_values<S: Store, B: Beside<S>>(
     warehouse: &mut Warehouse<S>,
     beside: &mut B,
@@ -45,6 +56,7 @@ pub(crate) fn add_values<S: Store, B: Beside<S>>(
     if let Some(place) = first_outside(values) {
         return Err(Fault::Value(place));
     }
+    let mark = covered(warehouse, level, index);
     let bands = warehouse.store.bands();
     if bands == 0 {
         return Err(Fault::Cell(CellFault::Cell(0)));
@@ -66,5 +78,7 @@ pub(crate) fn add_values<S: Store, B: Beside<S>>(
         store: &mut warehouse.store,
         chunk: guard.tree(),
     };
-    Ok(load.write())
+    let written = load.write();
+    warehouse.mark = mark;
+    Ok(written)
 }

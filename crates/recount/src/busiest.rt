@@ -176,9 +176,9 @@ pub(crate) fn play_indexed(heap: Global, deeds: &[Deed]) -> Result<Busiest, Allo
     let mut numbers = vec![in heap; 0i64; CELLS]?;
     let mut other_numbers = vec![in heap; 0i64; CELLS]?;
     let minutes = plain_minutes(heap, deeds)?;
-    let mut kept = Indexed::take_over(Flat::new(&mut numbers), Sparse::new(3, 1024), 4);
+    let mut kept = Indexed::take_over(Flat::new(&mut numbers), Sparse::new(3, 1024), 4, 0);
     let layer = HoldBack::new(Sparse::new(3, 1024));
-    let mut fresh = Indexed::take_over(Flat::new(&mut other_numbers), layer, 0);
+    let mut fresh = Indexed::take_over(Flat::new(&mut other_numbers), layer, 0, 0);
     let refused = repeat_all(&mut kept, deeds);
     let stuck = grow_all(&mut fresh, growths(deeds).saturating_add(4));
     let lost = load_back(&mut fresh, deeds);

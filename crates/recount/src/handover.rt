@@ -30,7 +30,7 @@ fn taken_over<S: Store + Drop>(warehouse: Warehouse<S>) -> Option<Warehouse<S>> 
     if audit(&store, size) != Ok(true) {
         return None;
     }
-    Some(Warehouse::take_over(store, size))
+    Some(Warehouse::take_over(store, size, 0))
 }
 
 fn given_up(back: RefusedLoad) -> Refusal {

@@ -83,8 +83,8 @@ pub(crate) fn play_twice(
     deeds: &[Deed],
 ) -> Result<Twice, AllocError> {
     let mut numbers = vec![in heap; 0i64; CELLS]?;
-    let mut kept = Warehouse::take_over(HoldBack::new(Sparse::new(3, 1024)), 4);
-    let mut fresh = Warehouse::take_over(Flat::new(&mut numbers), 4);
+    let mut kept = Warehouse::take_over(HoldBack::new(Sparse::new(3, 1024)), 4, 0);
+    let mut fresh = Warehouse::take_over(Flat::new(&mut numbers), 4, 0);
     Ok(Twice {
         commands: play(&mut kept, buffer, feed),
         points: count_points(deeds),

@@ -29,10 +29,12 @@ help_words =
     ++ codes "compare\n"
     ++ codes "survey N\n"
     ++ codes "found N\n"
-    ++ codes "take N\n"
+    ++ codes "take N [MARK]\n"
     ++ codes "audit N\n"
     ++ codes "close\n"
     ++ codes "size\n"
+    ++ codes "mark\n"
+    ++ codes "free\n"
     ++ codes "add MINUTE VALUE\n"
     ++ codes "load LEVEL INDEX VALUE..\n"
     ++ codes "grow\n"
@@ -61,6 +63,7 @@ abbrev pub trend_words : Trend → List ℕ
 trend_words (trend.Falling x) = codes "falling " ++ amount_text x
 trend_words (trend.Rising x) = codes "rising " ++ amount_text x
 trend_words trend.Level = codes "level"
+trend_words trend.Unfinished = codes "unfinished"
 
 abbrev pub compared_words : Comparison → List ℕ
 compared_words compared.Alike = codes "alike"

@@ -8,7 +8,7 @@
 -- line_of      what a line says
 use Rattle.std.specs.Prelude.{ℕ, ◌+◌, ◌-◌, Bool, cond, ◌||◌, List, length, ℤ, Some, None, Ok, Err, Option, Result, ◌==◌, slice_index}
 use Rattle.shell.specs.declared.command.Command.{Command}
-use Rattle.shell.specs.declared.command.Command.TheVariants.{Flat, Sparse, Layer, Write, Read, Store, First, Second, Compare, Survey, Found, Take, Audit, Close, Size, Add, Load, Grow, Settle, Point, Sum, Mean, Busiest, Trend, Cells, Line, Ring, Put, Welcome, Begin, Next, End, Replied, Help}
+use Rattle.shell.specs.declared.command.Command.TheVariants.{Flat, Sparse, Layer, Write, Read, Store, First, Second, Compare, Survey, Found, Take, Audit, Close, Size, Mark, Free, Add, Load, Grow, Settle, Point, Sum, Mean, Busiest, Trend, Cells, Line, Ring, Put, Welcome, Begin, Next, End, Replied, Help}
 use Rattle.shell.specs.declared.wrong.Why.{Why}
 use Rattle.shell.specs.declared.wrong.Why.TheVariants.{Name, Surplus}
 use Rattle.shell.specs.declared.wrong.Wrong.{Wrong}
@@ -16,7 +16,7 @@ use Rattle.shell.specs.declared.wrong.Misread.{Misread}
 use Rattle.shell.specs.declared.verb.Verb.{Verb}
 use Rattle.shell.specs.declared.verb.Verb.TheVariants as verb
 use Rattle.shell.specs.Verbs.{verb_of}
-use Rattle.shell.specs.Words.{misread, begun, word, after, banded, byte, half, number, value, hex_bytes, ◌>>=◌, field_of, last_of, values_of}
+use Rattle.shell.specs.Words.{misread, begun, word, after, banded, byte, half, number, value, hex_bytes, ◌>>=◌, field_of, last_of, values_of, number_or_zero}
 
 pub data Said : Type 0 where
   plain : Command → Said
@@ -46,6 +46,9 @@ abbrev pub whole_load : List ℕ → Result (Said × List ℕ) Misread
 whole_load bs =
     field_of byte bs >>= λ p. field_of number p.1 >>= λ q. values_of value q.1 >>= λ r. Ok (load p.0 q.0 r.0, r.1)
 
+abbrev pub taking : List ℕ → Result (Said × List ℕ) Misread
+taking bs = field_of byte bs >>= λ p. number_or_zero p.1 >>= λ q. Ok (plain (Take p.0 q.0), q.1)
+
 -- how the words after a command's own are read
 abbrev pub operands : Verb → List ℕ → Result (Said × List ℕ) Misread
 operands verb.Flat = one banded (λ bands. Flat bands.count)
@@ -59,10 +62,12 @@ operands verb.Second = none Second
 operands verb.Compare = none Compare
 operands verb.Survey = one byte Survey
 operands verb.Found = one byte Found
-operands verb.Take = one byte Take
+operands verb.Take = taking
 operands verb.Audit = one byte Audit
 operands verb.Close = none Close
 operands verb.Size = none Size
+operands verb.Mark = none Mark
+operands verb.Free = none Free
 operands verb.Add = two number value Add
 operands verb.Load = whole_load
 operands verb.Grow = none Grow

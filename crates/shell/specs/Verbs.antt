@@ -7,11 +7,11 @@ use Rattle.std.specs.Prelude.{ℕ, List, [], ◌∷◌, Option, codes}
 use Rattle.std.specs.List.{find}
 use Rattle.std.specs.Str.{bytes_eq}
 use Rattle.shell.specs.declared.verb.Verb.{Verb}
-use Rattle.shell.specs.declared.verb.Verb.TheVariants.{Flat, Sparse, Layer, Write, Read, Store, First, Second, Compare, Survey, Found, Take, Audit, Close, Size, Add, Load, Grow, Settle, Point, Sum, Mean, Busiest, Trend, Cells, Line, Ring, Put, Welcome, Begin, Next, End, Replied, Help}
+use Rattle.shell.specs.declared.verb.Verb.TheVariants.{Flat, Sparse, Layer, Write, Read, Store, First, Second, Compare, Survey, Found, Take, Audit, Close, Size, Mark, Free, Add, Load, Grow, Settle, Point, Sum, Mean, Busiest, Trend, Cells, Line, Ring, Put, Welcome, Begin, Next, End, Replied, Help}
 
 abbrev pub verbs : List Verb
 verbs =
-    Flat ∷ Sparse ∷ Layer ∷ Write ∷ Read ∷ Store ∷ First ∷ Second ∷ Compare ∷ Survey ∷ Found ∷ Take ∷ Audit ∷ Close ∷ Size ∷ Add ∷ Load ∷ Grow ∷ Settle ∷ Point ∷ Sum ∷ Mean ∷ Busiest ∷ Trend ∷ Cells ∷ Line ∷ Ring ∷ Put ∷ Welcome ∷ Begin ∷ Next ∷ End ∷ Replied ∷ Help ∷ []
+    Flat ∷ Sparse ∷ Layer ∷ Write ∷ Read ∷ Store ∷ First ∷ Second ∷ Compare ∷ Survey ∷ Found ∷ Take ∷ Audit ∷ Close ∷ Size ∷ Mark ∷ Free ∷ Add ∷ Load ∷ Grow ∷ Settle ∷ Point ∷ Sum ∷ Mean ∷ Busiest ∷ Trend ∷ Cells ∷ Line ∷ Ring ∷ Put ∷ Welcome ∷ Begin ∷ Next ∷ End ∷ Replied ∷ Help ∷ []
 
 abbrev pub name_of : Verb → List ℕ
 name_of Flat = codes "flat"
@@ -29,6 +29,8 @@ name_of Take = codes "take"
 name_of Audit = codes "audit"
 name_of Close = codes "close"
 name_of Size = codes "size"
+name_of Mark = codes "mark"
+name_of Free = codes "free"
 name_of Add = codes "add"
 name_of Load = codes "load"
 name_of Grow = codes "grow"

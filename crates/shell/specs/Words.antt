@@ -90,6 +90,10 @@ read_as bs (Err why) = Err (misread (length (begun bs)) why)
 abbrev pub field_of : {A : Type 0} → (List ℕ → Result A Why) → List ℕ → Result (A × List ℕ) Misread
 field_of read bs = read_as bs (cond (length (begun bs) == 0) (Err Missing) (read (word bs)))
 
+-- a number, which is 0 where no word comes
+abbrev pub number_or_zero : List ℕ → Result (ℕ × List ℕ) Misread
+number_or_zero bs = cond (length (begun bs) == 0) (Ok (0, bs)) (field_of number bs)
+
 -- a word, or none
 abbrev pub last_of : {A : Type 0} → (List ℕ → Result A Why) → List ℕ → Result (A × List ℕ) Misread
 last_of read bs = read_as bs (read (word bs))

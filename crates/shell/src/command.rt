@@ -42,6 +42,7 @@ pub enum Command {
     /// Takes over whatever the pile holds.
     Take {
         size: u8,
+        mark: u32,
     },
     /// Whether the pile's cells are those of some data at this size.
     Audit {
@@ -51,6 +52,10 @@ pub enum Command {
     Close,
     /// The size of the warehouse.
     Size,
+    /// One past the highest minute that additions covered.
+    Mark,
+    /// The figure of free cells.
+    Free,
     /// Adds a value to a minute.
     Add {
         minute: u32,

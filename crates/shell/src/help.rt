@@ -13,10 +13,12 @@ second
 compare
 survey N
 found N
-take N
+take N [MARK]
 audit N
 close
 size
+mark
+free
 add MINUTE VALUE
 load LEVEL INDEX VALUE..
 grow

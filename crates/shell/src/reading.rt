@@ -40,12 +40,15 @@ fn take_operands(verb: Verb, words: &mut Words, heap: Global) -> Result<Command,
         }),
         Verb::Take => Ok(Command::Take {
             size: words.take()?,
+            mark: words.take_or_zero()?,
         }),
         Verb::Audit => Ok(Command::Audit {
             size: words.take()?,
         }),
         Verb::Close => Ok(Command::Close),
         Verb::Size => Ok(Command::Size),
+        Verb::Mark => Ok(Command::Mark),
+        Verb::Free => Ok(Command::Free),
         Verb::Add => Ok(Command::Add {
             minute: words.take()?,
             value: words.take()?,

@@ -50,6 +50,7 @@ fn push_trend(text: &mut String, trend: Trend, heap: Global) -> Result<(), Alloc
         Trend::Falling(amount) => writeln!(text, "falling {}", amount_text(amount, heap)?),
         Trend::Rising(amount) => writeln!(text, "rising {}", amount_text(amount, heap)?),
         Trend::Level => writeln!(text, "level"),
+        Trend::Unfinished => writeln!(text, "unfinished"),
     }
 }
 

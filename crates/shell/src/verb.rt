@@ -21,6 +21,8 @@ pub(crate) enum Verb {
     Audit,
     Close,
     Size,
+    Mark,
+    Free,
     Add,
     Load,
     Grow,
@@ -42,7 +44,7 @@ pub(crate) enum Verb {
     Help,
 }
 
-const VERBS: [Verb; 34] = [
+const VERBS: [Verb; 36] = [
     Verb::Flat,
     Verb::Sparse,
     Verb::Layer,
@@ -58,6 +60,8 @@ const VERBS: [Verb; 34] = [
     Verb::Audit,
     Verb::Close,
     Verb::Size,
+    Verb::Mark,
+    Verb::Free,
     Verb::Add,
     Verb::Load,
     Verb::Grow,
@@ -100,6 +104,8 @@ impl Verb {
             Verb::Audit => "audit",
             Verb::Close => "close",
             Verb::Size => "size",
+            Verb::Mark => "mark",
+            Verb::Free => "free",
             Verb::Add => "add",
             Verb::Load => "load",
             Verb::Grow => "grow",

@@ -1,6 +1,6 @@
 //! The words of a line, and what each stands for.
 ghost use Rattle.std.specs.Prelude.{◌≡◌, ℕ, not, List, length, position, Result};
-ghost use Rattle.shell.specs.Words.{blank, word, after, begun, byte, half, number, value, hex_bytes, field_of, last_of, values_of};
+ghost use Rattle.shell.specs.Words.{blank, word, after, begun, byte, half, number, value, hex_bytes, field_of, number_or_zero, last_of, values_of};
 ghost use Rattle.shell.specs.Reading.{capped, Reads, ReadsList};
 ghost use Rattle.shell.specs.declared.wrong.Why.{Why};
 
@@ -156,6 +156,16 @@ impl<'a> Words<'a> {
         }
         let value = T::read(self.take_word()).map_err(|why| Misread { left, why })?;
         Ok(value)
+    }
+
+    // Takes the next word for a number, which is 0 where no word comes.
+    pub(crate) fn take_or_zero(&mut self) -> Result<u32, Misread>
+        ensures { Reads (number_or_zero self.old.rest.now) result self.new.rest.now }
+    {
+        if self.left() == 0 {
+            return Ok(0);
+        }
+        self.take()
     }
 
     // Takes the next word, or an empty one, for bytes in hex.

@@ -14,7 +14,7 @@ fn tour(rt: &HostRuntime) -> anyhow::Result<()> {
     let mut cells = vec![in rt.alloc(); 0i64; 1_118_480]?;
     let store = Flat::new(&mut cells);
     survey(&store, 20)?;
-    let mut warehouse = Warehouse::take_over(store, 20);
+    let mut warehouse = Warehouse::take_over(store, 20, 0);
     let mut hour = [0i64; 64];
     let mut load = begin(&warehouse, 6, 0)?;
     for minute in 0..64 {
@@ -31,6 +31,7 @@ fn tour(rt: &HostRuntime) -> anyhow::Result<()> {
         Trend::Falling(by) => println!(rt; "the second half has {by} a minute less")?,
         Trend::Rising(by) => println!(rt; "the second half has {by} a minute more")?,
         Trend::Level => println!(rt; "the halves are alike")?,
+        Trend::Unfinished => println!(rt; "it has not passed yet")?,
     }
     Ok(())
 }

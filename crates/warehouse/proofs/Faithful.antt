@@ -2,6 +2,7 @@
 use Rattle.std.proofs.Common.{◌≡◌, ℕ, ◌-◌, ◌*◌, ◌^◌, ◌<◌, ◌≤◌, min, cond, ◌||◌, eqb, ltb, leb, ℤ, nat_abs, Ok, Err, ap, ◌∙◌, ap₂, arith}
 use Rattle.std.proofs.lemmas.Bool.{lt-ltb, le-ltb, le-leb, lt-leb, ne_eqb, and_from, or_from, cond-true, cond-false}
 use Rattle.haar.specs.declared.coefficient.Coefficient.TheVariants.{Difference}
+use Rattle.haar.specs.declared.trend.Trend.TheVariants.{Unfinished}
 use Rattle.haar.specs.Tiles.{tiles_before, cell_number, cell_count, Inside}
 use Rattle.haar.specs.Tree.{plain_sum, D}
 use Rattle.haar.specs.Trend.{trend_of}
@@ -14,10 +15,10 @@ use Rattle.warehouse.specs.declared.fault.Fault.TheVariants.{Cell, Range, Domain
 use Rattle.warehouse.specs.Ask.{counted, piece, range_reading, sum_reading, averaged, point_answer, sum_answer, mean_answer}
 use Rattle.warehouse.specs.Faithful.{Holds, ReadsBack, WithoutBands}
 use Rattle.warehouse.specs.Faults.{refused}
-use Rattle.warehouse.specs.Grading.{inside, graded, graded_at, trend_answer}
+use Rattle.warehouse.specs.Grading.{inside, graded, graded_at, trend_by, trend_answer}
 use Rattle.warehouse.specs.Mean.{mean_of}
 use Rattle.warehouse.specs.Read.{◌then◌, look, sight, descend, read, cells_read, range_cells}
-use Rattle.warehouse.specs.View.{View}
+use Rattle.warehouse.specs.View.{View, end_of}
 use Rattle.warehouse.proofs.Sums.{reads_point, reads_range}
 
 module _ (v : View) (f : ℕ → ℤ) (h : Holds v f) where
@@ -49,25 +50,36 @@ module _ (v : View) (f : ℕ → ℤ) (h : Holds v f) where
     abbrev own_cell : ℕ
     own_cell = cell_number v.store.bands (Difference j k)
 
-    -- the trend of D(j,k), if it is not Fine
-    graded_back : trend_answer v j k ≡ refused (Interval j k) (graded j own_cell (D f j k))
+    -- the trend of D(j,k) by the mark and its cell
+    by_mark : trend_answer v j k ≡ refused (Interval j k) (trend_by v j k)
     unfolding trend_answer
-    graded_back =
+    by_mark =
         ap (refused (Interval j k))
-        (cond-false (eqb j 0 || ltb 20 j) (Err fault.Interval) (cond (inside v.size j k) (graded_at v.store j k) (Err Domain)) (or_from _ _ (ne_eqb _ _ (omega arith)) (le-ltb _ _ few))
-        ∙ cond-true (inside v.size j k) (graded_at v.store j k) (Err Domain) (and_from _ _ (le-leb _ _ i.1) (lt-ltb _ _ i.2))
-        ∙ ap (λ r. ◌then◌ r (graded j own_cell))
-        (cond-true (ltb own_cell (cell_count v.store.bands)) (Ok (v.store.cells own_cell)) (Err (Cell (cell.Cell own_cell))) (lt-ltb _ _ (inside_below v.store.bands v.size (Difference j k) h.some h.fits i))
-        ∙ ap Ok (h.haar.held (Difference j k) i)))
+        (cond-false (eqb j 0 || ltb 20 j) (Err fault.Interval) (cond (inside v.size j k) (trend_by v j k) (Err Domain)) (or_from _ _ (ne_eqb _ _ (omega arith)) (le-ltb _ _ few))
+        ∙ cond-true (inside v.size j k) (trend_by v j k) (Err Domain) (and_from _ _ (le-leb _ _ i.1) (lt-ltb _ _ i.2)))
 
-    trend_back : nat_abs (D f j k) ≤ 2 ^ 53 → trend_answer v j k ≡ Ok (trend_of j (D f j k))
-    trend_back l = graded_back ∙ ap (refused (Interval j k)) (cond-true (leb (nat_abs (D f j k)) (2 ^ 53)) (Ok (trend_of j (D f j k))) (Err (Fine own_cell)) (le-leb _ _ l))
+    trend_unfinished : v.mark < end_of j k → trend_answer v j k ≡ Ok Unfinished
+    trend_unfinished past = by_mark ∙ ap (refused (Interval j k)) (cond-true (ltb v.mark (end_of j k)) (Ok Unfinished) (graded_at v.store j k) (lt-ltb _ _ past))
 
-    trend_fine : 2 ^ 53 < nat_abs (D f j k) → trend_answer v j k ≡ Err (record { fault = Fine own_cell; asked = Interval j k })
-    trend_fine l = graded_back ∙ ap (refused (Interval j k)) (cond-false (leb (nat_abs (D f j k)) (2 ^ 53)) (Ok (trend_of j (D f j k))) (Err (Fine own_cell)) (lt-leb _ _ l))
+    module _ (done : end_of j k ≤ v.mark) where
+      -- and, if it is not Fine
+      graded_back : trend_answer v j k ≡ refused (Interval j k) (graded j own_cell (D f j k))
+      graded_back =
+          by_mark
+          ∙ ap (refused (Interval j k))
+          (cond-false (ltb v.mark (end_of j k)) (Ok Unfinished) (graded_at v.store j k) (le-ltb _ _ done)
+          ∙ ap (λ r. ◌then◌ r (graded j own_cell))
+          (cond-true (ltb own_cell (cell_count v.store.bands)) (Ok (v.store.cells own_cell)) (Err (Cell (cell.Cell own_cell))) (lt-ltb _ _ (inside_below v.store.bands v.size (Difference j k) h.some h.fits i))
+          ∙ ap Ok (h.haar.held (Difference j k) i)))
+
+      trend_back : nat_abs (D f j k) ≤ 2 ^ 53 → trend_answer v j k ≡ Ok (trend_of j (D f j k))
+      trend_back l = graded_back ∙ ap (refused (Interval j k)) (cond-true (leb (nat_abs (D f j k)) (2 ^ 53)) (Ok (trend_of j (D f j k))) (Err (Fine own_cell)) (le-leb _ _ l))
+
+      trend_fine : 2 ^ 53 < nat_abs (D f j k) → trend_answer v j k ≡ Err (record { fault = Fine own_cell; asked = Interval j k })
+      trend_fine l = graded_back ∙ ap (refused (Interval j k)) (cond-false (leb (nat_abs (D f j k)) (2 ^ 53)) (Ok (trend_of j (D f j k))) (Err (Fine own_cell)) (lt-leb _ _ l))
 
 pub reads_back : ReadsBack
-reads_back v f h = (point_back v f h, sum_back v f h, mean_back v f h, λ j k few i. (trend_back v f h j k few i, trend_fine v f h j k few i))
+reads_back v f h = (point_back v f h, sum_back v f h, mean_back v f h, λ j k few i. (trend_unfinished v f h j k few i, trend_back v f h j k few i, trend_fine v f h j k few i))
 
 module _ (m : Meaning) (asked : ℕ) (e : m.bands ≡ 0) where
   no_size : min asked (4 * m.bands) ≡ 0
@@ -83,7 +95,7 @@ module _ (m : Meaning) (asked : ℕ) (e : m.bands ≡ 0) where
 
 pub without_bands : WithoutBands
 unfolding point_answer
-without_bands m asked e =
+without_bands m asked mark e =
     let z = ap (λ n. 2 ^ n) (no_size m asked e) in
     ap (refused (Minute 0))
     (cond-true (ltb 0 (2 ^ min asked (4 * m.bands))) (piece m.bands (min asked (4 * m.bands)) (look m) 0 0) (Err Domain) (lt-ltb _ _ (omega arith))

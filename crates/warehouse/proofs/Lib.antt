@@ -9,3 +9,4 @@ pub mod Means
 pub mod Halving
 pub mod Spread
 pub mod Sixteen
+pub mod Marks

@@ -10,7 +10,7 @@ use Rattle.warehouse.specs.declared.fault.Fault.{Fault}
 use Rattle.warehouse.specs.declared.fault.Fault.TheVariants.{Size, Dirty}
 use Rattle.warehouse.specs.declared.fault.Refusal.{Refusal}
 use Rattle.warehouse.specs.Faults.{fault_alone, Repeats}
-use Rattle.warehouse.specs.View.{View}
+use Rattle.warehouse.specs.View.{View, unmarked}
 
 -- the cells below c are zero
 abbrev pub Empty : Meaning → ℕ → Type 0
@@ -23,6 +23,7 @@ pub record Sized (m : Meaning) (n : ℕ) : Type 0 where
 
 pub record Founded (v : View) : Type 0 where
   pub sized : Sized v.store v.size
+  pub unmarked : v.mark ≡ 0
   pub empty : Empty v.store (cell_count v.store.bands)
   pub room : pos 0 ≤ℤ v.store.room
 
@@ -38,7 +39,7 @@ Unfit m n (Dirty c) = Sized m n × Soiled m c
 Unfit m n _ = ⊥
 
 abbrev pub Surveyed : Meaning → ℕ → Result Unit Fault → Type 0
-Surveyed m n (Ok _) = Founded (record { size = n; store = m })
+Surveyed m n (Ok _) = Founded (unmarked m n)
 Surveyed m n (Err f) = Unfit m n f
 
 -- the answer of a survey, whose refusal repeats the size

@@ -6,6 +6,7 @@
 use Rattle.std.specs.Prelude.{ℕ, ◌-◌, ◌^◌, ◌≤◌, Bool, cond, ◌&&◌, ◌||◌, ℤ, Ok, Err, Result, ◌==◌, nat_le, nat_lt, unsigned_abs}
 use Rattle.haar.specs.declared.coefficient.Coefficient.TheVariants.{Difference}
 use Rattle.haar.specs.declared.trend.Trend.{Trend}
+use Rattle.haar.specs.declared.trend.Trend.TheVariants.{Unfinished}
 use Rattle.haar.specs.Tiles.{cell_number}
 use Rattle.haar.specs.Trend.{trend_of}
 use Rattle.store.specs.Meaning.{Meaning}
@@ -15,7 +16,7 @@ use Rattle.warehouse.specs.declared.fault.Fault.TheVariants.{Interval, Domain, F
 use Rattle.warehouse.specs.declared.fault.Refusal.{Refusal}
 use Rattle.warehouse.specs.Faults.{refused}
 use Rattle.warehouse.specs.Read.{◌then◌, look}
-use Rattle.warehouse.specs.View.{View}
+use Rattle.warehouse.specs.View.{View, end_of}
 
 abbrev pub inside : ℕ → ℕ → ℕ → Bool
 inside n j k = nat_le j n && nat_lt k (2 ^ (n - j))
@@ -34,9 +35,13 @@ graded_in m j c = ◌then◌ (look m c) (graded j c)
 abbrev pub graded_at : Meaning → ℕ → ℕ → Result Trend Fault
 graded_at m j k = graded_in m j (cell_number m.bands (Difference j k))
 
--- Interval for a level that is 0 or over 20, Domain past the size, then the cell
+-- Unfinished where the interval ends past the mark, else from its cell
+abbrev pub trend_by : View → ℕ → ℕ → Result Trend Fault
+trend_by v j k = cond (nat_lt v.mark (end_of j k)) (Ok Unfinished) (graded_at v.store j k)
+
+-- Interval for a level that is 0 or over 20, Domain past the size, then the mark, then the cell
 abbrev pub trend_reading : View → ℕ → ℕ → Result Trend Fault
-trend_reading v j k = cond (j == 0 || nat_lt 20 j) (Err Interval) (cond (inside v.size j k) (graded_at v.store j k) (Err Domain))
+trend_reading v j k = cond (j == 0 || nat_lt 20 j) (Err Interval) (cond (inside v.size j k) (trend_by v j k) (Err Domain))
 
 unfoldable pub trend_answer : View → ℕ → ℕ → Result Trend Refusal
 trend_answer v j k = refused (asked.Interval j k) (trend_reading v j k)

@@ -1,5 +1,5 @@
 // Surveying a store, taking it over, settling and closing.
-ghost use Rattle.std.specs.Prelude.{◌≡◌, ℕ, ◌<◌, ◌≤◌, pos, MatchOption, ◌≢◌};
+ghost use Rattle.std.specs.Prelude.{◌≡◌, ℕ, ◌^◌, ◌<◌, ◌≤◌, min, pos, MatchOption, ◌≢◌};
 ghost use Rattle.haar.specs.Tiles.{cell_count};
 ghost use Rattle.store.specs.Meaning.{Settles};
 ghost use Rattle.warehouse.specs.Founding.{Empty, Surveyed, Surveys, cut};
@@ -43,13 +43,17 @@ pub fn survey<S: Store>(store: &S, size: u8) -> Result<(), Refusal>
 }
 
 impl<S: Store> Warehouse<S> {
-    // A warehouse on the store, whatever it holds.
-    pub fn take_over(store: S, size: u8) -> Warehouse<S>
+    /// A warehouse on the store, whatever it holds. The size is cut to what the bands can have, and the mark to the
+    /// end of that size.
+    pub fn take_over(store: S, size: u8, mark: u32) -> Warehouse<S>
         ensures store { result.store ≡ store }
         ensures size { result.asked ≡ cut (S.means store) size }
+        ensures mark { result.mark ≡ min mark (2 ^ cut (S.means store) size) }
     {
+        let asked = size.min(4 * store.bands());
         Warehouse {
-            asked: size.min(4 * store.bands()),
+            asked,
+            mark: mark.min(1 << asked),
             store,
         }
     }
@@ -58,6 +62,7 @@ impl<S: Store> Warehouse<S> {
         ensures settles { Settles (S.means self.old.store) (S.means self.new.store) }
         ensures store { S.settled self.old.store self.new.store }
         ensures size { self.new.asked ≡ self.old.asked }
+        ensures mark { self.new.mark ≡ self.old.mark }
     {
         self.store.settle();
     }

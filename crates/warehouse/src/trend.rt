@@ -1,9 +1,9 @@
 // The trend of an interval: how its two halves compare.
-ghost use Rattle.std.specs.Prelude.{◌≡◌, ◌^◌, ◌≤◌, unsigned_abs};
-ghost use Rattle.haar.specs.Places.{InTree};
+ghost use Rattle.std.specs.Prelude.{◌≡◌, ◌^◌, ◌≤◌, nat_lt, unsigned_abs};
+ghost use Rattle.haar.specs.Places.{InSize, InTree};
 ghost use Rattle.haar.specs.Trend.{amount, trend_of};
 ghost use Rattle.warehouse.specs.Grading.{Trended, graded_at, trend_reading, trend_answer};
-ghost use Rattle.warehouse.specs.View.{known};
+ghost use Rattle.warehouse.specs.View.{known, end_of};
 
 use crate::fault::{Asked, Fault, Refusal};
 use crate::numbers::answered;
@@ -38,7 +38,8 @@ fn trend_of(difference: i64, level: u8) -> Trend
 
 #[tactic(auto, unfolding(crate::specs::Grading::trend_answer))]
 impl<S: Store> Warehouse<S> {
-    // How the halves of the interval (level, index) compare.
+    /// How the halves of the interval (level, index) compare, level 1 to 20; Unfinished where it ends past the mark.
+    /// Refused as 17, Interval, 21, Domain, 19, Cell, and 29, Fine.
     pub fn trend(&self, level: u8, index: u32) -> Result<Trend, Refusal>
         ensures { result ≡ trend_answer (known S.means self.now) level index }
     {
@@ -57,7 +58,18 @@ impl<S: Store> Warehouse<S> {
         if !self.has(level, index) {
             return Err(Fault::Domain);
         }
+        if self.ends_past_mark(level, index) {
+            return Ok(Trend::Unfinished);
+        }
         self.trend_inside(level, index)
+    }
+
+    // Whether an interval inside the size ends past the mark.
+    fn ends_past_mark(&self, level: u8, index: u32) -> bool
+        requires { InSize (known S.means self.now).size level index }
+        ensures { result ≡ nat_lt (known S.means self.now).mark (end_of level index) }
+    {
+        self.mark() < (index + 1) << level
     }
 
     // The trend of an interval of the store's tree, from its cell.

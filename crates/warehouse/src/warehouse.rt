@@ -1,4 +1,4 @@
-// The size of a warehouse, what lies inside it, and how many of its cells are free.
+// The size of a warehouse, its mark, what lies inside it, and how many of its cells are free.
 ghost use Rattle.std.specs.Prelude.{◌≡◌, ℕ, ◌-◌, ◌^◌, ◌<◌, ◌≤◌, ◌↔◌, IsTrue};
 ghost use Rattle.haar.specs.Places.{InSize, InTree};
 ghost use Rattle.store.specs.Free.{free_cells, IsFree};
@@ -19,6 +19,15 @@ impl<S: Store> Warehouse<S> {
         ensures lawful { Lawful (S.means self.now.store) }
     {
         self.asked.min(4 * self.store.bands())
+    }
+
+    /// One past the highest minute that an addition covered, cut to the end of the size.
+    pub fn mark(&self) -> u32
+        ensures is { result ≡ (known S.means self.now).mark }
+        ensures most { result ≤ 2 ^ (known S.means self.now).size }
+        ensures few { (known S.means self.now).size ≤ 20 }
+    {
+        self.mark.min(1 << self.size())
     }
 
     // Whether the interval (level, index) lies inside the size.

@@ -1,4 +1,4 @@
-use Rattle.std.proofs.Common.{◌≡◌, ◌-◌, ◌*◌, min, length, take, drop, sym, ap, ◌∙◌, ap₂, subst, arith, w64, to_z, of_z, rules, take_all, length-drop}
+use Rattle.std.proofs.Common.{◌≡◌, ◌-◌, ◌*◌, ◌^◌, min, length, take, drop, sym, ap, ◌∙◌, ap₂, subst, arith, w64, to_z, of_z, rules, take_all, length-drop}
 use Rattle.std.proofs.lemmas.Int.{ints}
 use Rattle.std.proofs.lemmas.List.{drop_min}
 use Rattle.warehouse.specs.View.{known}
@@ -42,7 +42,8 @@ returns-in-Settle-clause-made g c h =
     let v = known g.S.Store.means c.args.warehouse.now in
     let w = known g.S.Store.means c.settle.new.self in
     let size : w.size ≡ v.size = ap₂ (λ a t. min a (4 * t)) c.settle.ensures.size c.settle.ensures.settles.same.bands in
-    subst (λ k. Makes (is_made v.size k) v (call_of c.args.numbers.now k) h w) (sym c.in-Settle.is) (made v w settle settled h (steps.settle v w size c.settle.ensures.settles))
+    let mark : w.mark ≡ v.mark = ap₂ (λ a n. min a (2 ^ n)) c.settle.ensures.mark size in
+    subst (λ k. Makes (is_made v.size k) v (call_of c.args.numbers.now k) h w) (sym c.in-Settle.is) (made v w settle settled h (steps.settle v w size mark c.settle.ensures.settles))
 
 pub returns-in-Point-clause-made : goal.returns-in-Point-clause-made
 returns-in-Point-clause-made g c h =

@@ -5,14 +5,14 @@ use Rattle.std.proofs.lemmas.Result.{err_from_is_err_and}
 use Rattle.warehouse.specs.Ask.{sum_in}
 use Rattle.warehouse.specs.Tile.{Spread, TileMinutes}
 use Rattle.warehouse.specs.Tree.{tree_view}
-use Rattle.warehouse.specs.View.{View, known}
+use Rattle.warehouse.specs.View.{View, known, unmarked}
 use Rattle.warehouse.proofs.Sixteen.{few, all_past, tile_lost, sum_lost, tile_read, zeros_after}
 use Rattle.warehouse.proofs.record.Warehouse.tile_minutes.Goals as goal
 
 pub returns-then-tile-tree : goal.returns-then-tile-tree
 returns-then-tile-tree g c =
     let t = c.tree-tree.result in
-    let e : tree_view t ≡ known g.S.Store.means c.args.self.now = λ i. record { size = c.tree-tree.ensures.size i; store = g.S.Store.means (c.tree-tree.ensures.store i) } in
+    let e : tree_view t ≡ unmarked (g.S.Store.means c.args.self.now.store) (known g.S.Store.means c.args.self.now).size = λ i. record { size = c.tree-tree.ensures.size i; mark = 0; store = g.S.Store.means (c.tree-tree.ensures.store i) } in
     let top : c.min-top.result ≡ min t.size 4 = omega (arith, c.min-top.ensures) in
     let s = one_shl (t.size - c.min-top.result) 32 (omega (arith, t.most)) in
     let d = ap (λ m. 2 ^ (t.size - m)) top in
@@ -21,7 +21,7 @@ returns-then-tile-tree g c =
 pub returns-in_err-minutes : goal.returns-in_err-minutes
 returns-in_err-minutes g c =
     let t = c.tree-tree.result in
-    let e : tree_view t ≡ known g.S.Store.means c.args.self.now = λ i. record { size = c.tree-tree.ensures.size i; store = g.S.Store.means (c.tree-tree.ensures.store i) } in
+    let e : tree_view t ≡ unmarked (g.S.Store.means c.args.self.now.store) (known g.S.Store.means c.args.self.now).size = λ i. record { size = c.tree-tree.ensures.size i; mark = 0; store = g.S.Store.means (c.tree-tree.ensures.store i) } in
     let top : c.min-top.result ≡ min t.size 4 = omega (arith, c.min-top.ensures) in
     let s = one_shl (t.size - c.min-top.result) 32 (omega (arith, t.most)) in
     let d = ap (λ m. 2 ^ (t.size - m)) top in
@@ -54,7 +54,7 @@ spread-requires-clause-many g c =
 pub returns-in_err-spread : goal.returns-in_err-spread
 returns-in_err-spread g c =
     let t = c.tree-tree.result in
-    let e : tree_view t ≡ known g.S.Store.means c.args.self.now = λ i. record { size = c.tree-tree.ensures.size i; store = g.S.Store.means (c.tree-tree.ensures.store i) } in
+    let e : tree_view t ≡ unmarked (g.S.Store.means c.args.self.now.store) (known g.S.Store.means c.args.self.now).size = λ i. record { size = c.tree-tree.ensures.size i; mark = 0; store = g.S.Store.means (c.tree-tree.ensures.store i) } in
     let top : c.min-top.result ≡ min t.size 4 = omega (arith, c.min-top.ensures) in
     let s = one_shl (t.size - c.min-top.result) 32 (omega (arith, t.most)) in
     let d = ap (λ m. 2 ^ (t.size - m)) top in
@@ -68,7 +68,7 @@ returns-in_err-spread g c =
 pub returns : goal.returns
 returns g c =
     let t = c.tree-tree.result in
-    let e : tree_view t ≡ known g.S.Store.means c.args.self.now = λ i. record { size = c.tree-tree.ensures.size i; store = g.S.Store.means (c.tree-tree.ensures.store i) } in
+    let e : tree_view t ≡ unmarked (g.S.Store.means c.args.self.now.store) (known g.S.Store.means c.args.self.now).size = λ i. record { size = c.tree-tree.ensures.size i; mark = 0; store = g.S.Store.means (c.tree-tree.ensures.store i) } in
     let top : c.min-top.result ≡ min t.size 4 = omega (arith, c.min-top.ensures) in
     let s = one_shl (t.size - c.min-top.result) 32 (omega (arith, t.most)) in
     let d = ap (λ m. 2 ^ (t.size - m)) top in

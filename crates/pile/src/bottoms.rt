@@ -1,9 +1,9 @@
 // The stores that may stand at the bottom of a pile.
-ghost use Rattle.std.specs.Prelude.{◌≡◌, ℕ, ◌<◌, pos, min, length, IfOk, IfSome};
+ghost use Rattle.std.specs.Prelude.{◌≡◌, ℕ, ◌<◌, pos, min, ◌↔◌, length, IfOk, IfSome, IsSome};
 ghost use Rattle.flat.specs.FlatMeaning.{flat_means};
 ghost use Rattle.flat.specs.Slice.{number_at};
 ghost use Rattle.store.specs.SparseMeaning.{Made, sparse_means};
-ghost use Rattle.pile.specs.Bottoms.{EmptyUpTo, bottom_means, numbers_in};
+ghost use Rattle.pile.specs.Bottoms.{EmptyUpTo, IsFlat, bottom_means, numbers_in};
 
 use crate::boxed::Boxed;
 use crate::either::Either;
@@ -43,7 +43,8 @@ pub fn sparse_bottom<'a>(alloc: Global, bands: u8, capacity: u16) -> Result<Bott
 
 /// The slice of a flat store, back in place of it.
 pub fn into_numbers(bottom: Bottom<'_>) -> Option<&mut [i64]>
-    ensures { IfSome result (λ zs. zs.now ≡ numbers_in bottom.entry) }
+    ensures some { IsSome result ↔ IsFlat bottom.entry }
+    ensures numbers { IfSome result (λ zs. zs.now ≡ numbers_in bottom.entry) }
 {
     match bottom {
         Either::Left(flat) => Some(flat.into_numbers()),

@@ -1,7 +1,7 @@
 // Where the bottoms of piles come from, and go back to: a store is chosen while a program runs, and given up for another.
 ghost use Rattle.std.specs.Prelude.{◌≡◌, ℕ, length, IfOk};
 ghost use Rattle.store.specs.SparseMeaning.{Made};
-ghost use Rattle.pile.specs.Bottoms.{EmptyUpTo, bottom_means};
+ghost use Rattle.pile.specs.Bottoms.{EmptyUpTo, bottom_means, numbers_back};
 
 use crate::bottoms::{Bottom, flat_bottom, into_numbers, sparse_bottom};
 use std::alloc::{AllocError, Global};
@@ -16,6 +16,9 @@ pub trait Lays {
     // how many numbers it has for a flat store
     ghost has: { Self → ℕ };
 
+    // how many it has once a bottom came back, where it had so many before
+    ghost back: { Self.Bottom → ℕ → ℕ };
+
     /// An empty flat store of so many bands, or as many as there are numbers for.
     fn lay_flat(&mut self, bands: u8) -> Self::Bottom
         ensures { EmptyUpTo bands (has self.old) (Self.Bottom.means result) };
@@ -26,7 +29,8 @@ pub trait Lays {
         ensures has { has self.new ≡ has self.old };
 
     /// Takes a bottom back, with the numbers that it had.
-    fn take_back(&mut self, bottom: Self::Bottom);
+    fn take_back(&mut self, bottom: Self::Bottom)
+        ensures { has self.new ≡ back bottom (has self.old) };
 }
 
 /// The numbers of one pile's flat store, which are elsewhere while such a store stands.
@@ -52,6 +56,8 @@ impl<'a> Lays for Numbers<'a> {
     type Bottom = Bottom<'a>;
 
     ghost has = { λ n. length n.spare.now };
+
+    ghost back = { numbers_back };
 
     fn lay_flat(&mut self, bands: u8) -> Bottom<'a> {
         flat_bottom(replace(&mut self.spare, &mut []), bands)

@@ -6,7 +6,7 @@ use std::fmt;
 use std::fmt::Display;
 use warehouse::fault::Refusal;
 
-#[derive(Debug, Drop)]
+#[derive(Clone, Copy, Debug, Drop)]
 pub enum RunFault<I, O> {
     // no warehouse can be founded on the store
     Founding(Refusal),

@@ -1,14 +1,17 @@
 -- Counting the zero cells of a slice.
-use Rattle.std.proofs.Common.{◌≡◌, ℕ, zero, suc, ◌+◌, ◌<◌, ◌≤◌, Bool, true, false, nat_eq, Option, Some, None, List, length, take, count_by, ℤ, refl, sym, subst, ap, inl, inr, add-one, arith}
+use Rattle.std.proofs.Common.{◌≡◌, ℕ, zero, suc, ◌+◌, ◌<◌, ◌≤◌, Option, Some, None, ℤ, refl, sym, subst, ap, inl, inr, add-one, arith}
 use Rattle.std.proofs.lemmas.Bool.{cases_eq, cases_lt}
-use Rattle.std.proofs.lemmas.Bool.Decides.{nat_tests}
-use Rattle.std.proofs.lemmas.List.Sums.{count_by_more_yes, count_by_more_no}
 use Rattle.std.specs.Option.{unwrap_or}
 use Rattle.haar.specs.Tiles.{tiles_before, cell_count}
 use Rattle.haar.proofs.Places.{before_most}
 use Rattle.store.specs.Meaning.{weight, filled}
 use Rattle.store.proofs.Counting.{weight_most}
-use Rattle.flat.specs.Slice.{number_at, Greatest}
+use Rattle.flat.specs.Slice.{Greatest}
+
+-- one cell more
+pub filled_more : (x : ℕ → ℤ) (n : ℕ) → filled x (n + 1) ≡ filled x n + weight (x n)
+unfolding filled
+filled_more x n = rw add-one
 
 -- without bands there are no cells
 pub none_before : tiles_before 0 ≡ 0
@@ -18,25 +21,6 @@ none_before = refl
 -- zero cells are few
 pub zeros_most : (T empty full : ℕ) → T ≤ 5 → empty + full ≡ cell_count T → empty ≤ 1118480
 zeros_most T empty full few e = omega (arith, before_most T few)
-
--- zero and other numbers of a slice together are all of them
-pub zeros_counted : (zs : List ℤ) (n : ℕ) → n ≤ length zs → count_by (λ (z : ℤ). nat_eq (weight z) 0) (take n zs) + filled (number_at zs) n ≡ n
-unfolding filled
-zeros_counted zs zero l = refl
-zeros_counted zs (suc n) l =
-    let p : ℤ → Bool = λ z. nat_eq (weight z) 0 in
-    let rest = zeros_counted zs n (omega arith) in
-    let most = weight_most (number_at zs n) in
-    elim (cases_eq (weight (number_at zs n)) 0) [
-      | inl none ↦
-          let yes : p (number_at zs n) ≡ true = grind (arith, nat_tests) in
-          let more = simp add-one at (count_by_more_yes p zs n _ l yes) in
-          omega arith
-      | inr some ↦
-          let no : p (number_at zs n) ≡ false = grind (arith, nat_tests) in
-          let more = simp add-one at (count_by_more_no p zs n _ l no) in
-          omega arith
-    ]
 
 filled_most : (x : ℕ → ℤ) (n : ℕ) → filled x n ≤ n
 unfolding filled

@@ -3,14 +3,24 @@ ghost use Rattle.std.specs.Prelude.{◌≡◌, ◌+◌, ◌^◌, ◌<◌, ◌≤
 ghost use Rattle.store.specs.Meaning.{filled, weight};
 ghost use Rattle.flat.specs.Slice.{number_at};
 
+// 1 for zero, and 0 for any other number.
+fn zero_weight(number: i64) -> u32
+    ensures { result + weight number ≡ 1 }
+{
+    u32::from(number == 0)
+}
+
 // How many of the first so many numbers are zero.
 pub(crate) fn count_zeros(numbers: &[i64], cells: u32) -> u32
     requires { cells ≤ length numbers.now }
     ensures { result + filled (number_at numbers.now) cells ≡ cells }
 {
-    let numbers = &numbers[..cells as usize];
-    let zeros = numbers.iter().filter(|number| **number == 0).count();
-    u32::try_from(zeros).unwrap()
+    // by a loop over the slice: a `filter` and `count` of it are not made into instructions for several numbers at once
+    let mut zeros = 0;
+    for number in &numbers[..cells as usize] {
+        zeros += zero_weight(*number);
+    }
+    zeros
 }
 
 // The count of zeros after a number took another's place.

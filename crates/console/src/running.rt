@@ -49,5 +49,7 @@ pub fn run<S: Store, I: Source, O: Sink>(
     }
     let mut warehouse = Warehouse::take_over(store, size, 0);
     let answer = resume(&mut warehouse, buffer, source, sink);
-    (warehouse.close(), answer)
+    // settled where it is: closing it by value copies the store onto the stack once more
+    warehouse.settle();
+    (warehouse.store, answer)
 }
